@@ -1,0 +1,37 @@
+-- Laws of the ones before a slot, over the number n of slots. Assumes nothing.
+use mathlib.Core.Path.{_≡_, sym, ap, _∙_}
+use Prim.Native.Nat.{ℕ, _+_, _-_, _*_, _/_, _%_, _^_, _≤_, _<_}
+use native.Mathlib.Nat.{div-one}
+use native.Mathlib.Omega.{arith}
+use lib.Arith.{digits-div}
+use lib.Count.{ones, ones-le, ones-step}
+use lib.Pow.{shr-lt, shr-shr}
+use Rattle.bits.specs.Bitmap.{before, slotBit, onesBefore, zerosBefore}
+
+-- no more ones before slot j than slots
+pub ones-before-le : (n bitmap j : ℕ) → j ≤ n → bitmap < 2 ^ n → onesBefore n bitmap j ≤ j
+ones-before-le n bitmap j h p =
+    let e : j + (n - j) ≡ n = omega arith in ones-le j (before n bitmap j) (shr-lt j (n - j) (rw e p))
+
+-- every slot before j is a one or a zero
+pub ones-zeros-before : (n bitmap j : ℕ) → j ≤ n → bitmap < 2 ^ n → onesBefore n bitmap j + zerosBefore n bitmap j ≡ j
+ones-zeros-before n bitmap j h p = omega (arith, ones-before-le n bitmap j h p)
+
+-- one slot more counts that slot's own bit
+pub ones-before-suc : (n bitmap j : ℕ) → j < n → onesBefore n bitmap (j + 1) ≡ slotBit n bitmap j + onesBefore n bitmap j
+ones-before-suc n bitmap j h =
+    let e : n - (j + 1) ≡ n - 1 - j = omega arith in
+    let f : n - 1 - j + 1 ≡ n - j = omega arith in
+    ap (λ (k : ℕ). ones (bitmap / 2 ^ k)) e ∙ ones-step (bitmap / 2 ^ (n - 1 - j))
+    ∙ ap (λ (x : ℕ). slotBit n bitmap j + ones x) (shr-shr bitmap (n - 1 - j) 1 ∙ ap (λ (k : ℕ). bitmap / 2 ^ k) f)
+
+-- all slots
+pub ones-before-all : (n bitmap : ℕ) → onesBefore n bitmap n ≡ ones bitmap
+ones-before-all n bitmap = let e : n - n ≡ 0 = omega arith in rw (e, div-one)
+
+-- a bit put in as a new last slot changes no count before it
+pub ones-before-push : (n bitmap bit j : ℕ) → bit < 2 → j ≤ n → onesBefore (n + 1) (bitmap * 2 + bit) j ≡ onesBefore n bitmap j
+ones-before-push n bitmap bit j h l =
+    let e : n + 1 - j ≡ 1 + (n - j) = omega arith in
+    ap (λ (k : ℕ). ones ((bitmap * 2 + bit) / 2 ^ k)) e
+    ∙ ap ones (sym (shr-shr (bitmap * 2 + bit) 1 (n - j)) ∙ ap (λ (x : ℕ). x / 2 ^ (n - j)) (digits-div bitmap {m = 2} h))

@@ -1,0 +1,19 @@
+-- Defines the ones and zeros before a slot of a bitmap of n slots: rules, "The image", "Lookup at node a, slot j". Assumes nothing.
+use Prim.Native.Nat.{ℕ, _-_, _/_, _%_, _^_}
+use lib.Count.{ones}
+
+-- "In the bitmap slot 0 is the highest": the bitmap's part before slot j
+abbrev pub before : ℕ → ℕ → ℕ → ℕ
+before n bitmap j = bitmap / 2 ^ (n - j)
+
+-- "1 means leaf": slot j's own bit
+abbrev pub slotBit : ℕ → ℕ → ℕ → ℕ
+slotBit n bitmap j = bitmap / 2 ^ (n - 1 - j) % 2
+
+-- "the number of ones in the slots before j"
+abbrev pub onesBefore : ℕ → ℕ → ℕ → ℕ
+onesBefore n bitmap j = ones (before n bitmap j)
+
+-- "the number of zeros before j"
+abbrev pub zerosBefore : ℕ → ℕ → ℕ → ℕ
+zerosBefore n bitmap j = j - onesBefore n bitmap j

@@ -1,0 +1,2 @@
+-- What the methods of a prefix answer, over the width.
+pub mod Prefixes

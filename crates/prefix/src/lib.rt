@@ -1,0 +1,103 @@
+// Prefixes of 32-bit addresses, by value: the whole space, ends, halves, order, and the one match test.
+// Every method answers for every value and length; docs/DECISIONS.md says what outside the rules' domain.
+ghost use mathlib.Core.Path.{_≡_};
+ghost use Prim.Native.Nat.{_-_, _%_, _^_, _≤_};
+ghost use Rattle.bits.specs.Prefix.{clear, matches, first, last, precedes};
+ghost use Rattle.prefix.specs.Prefixes.{Spanned, prefix, leftHalf, rightHalf};
+
+pub struct Prefix {
+    pub value: u32,
+    pub len: u32,
+}
+
+// The bits past the length; none past 32.
+fn gap(len: u32) -> u32
+    ensures { λ r. ⌜ (r ≡ 32 - len) × (r ≤ 32) ⌝ }
+{
+    if len < 32 { 32 - len } else { 0 }
+}
+
+// How many addresses share the first `len` bits.
+fn span_of(len: u32) -> u64
+    ensures { λ r. ⌜ Spanned 32 len r ⌝ }
+{
+    1u64 << gap(len)
+}
+
+impl Prefix {
+    // The prefix of length 0 is the whole address space.
+    pub const WHOLE: Prefix = Prefix { value: 0, len: 0 };
+
+    // The value and the length as they are: the checks of a list or an update refuse what is no prefix.
+    pub fn new(value: u32, len: u32) -> Self
+        ensures { λ r. ⌜ r ≡ prefix value len ⌝ }
+    {
+        Self { value, len }
+    }
+
+    // Whether the bits of the value from the length on are zero.
+    pub fn is_clear(self) -> bool
+        ensures { λ r. ⌜ r ≡ clear 32 (self .value) (self .len) ⌝ }
+    {
+        (self.value as u64) % span_of(self.len) == 0
+    }
+
+    // THE MATCH TEST: whether the first (length) bits of the address and the value agree.
+    pub fn matches(self, address: u32) -> bool
+        ensures { λ r. ⌜ r ≡ matches 32 (self .value) (self .len) address ⌝ }
+    {
+        let k = gap(self.len);
+        (address as u64) >> k == (self.value as u64) >> k
+    }
+
+    // The first address.
+    pub fn first(self) -> u32
+        ensures { λ r. ⌜ r ≡ first 32 (self .value) (self .len) ⌝ }
+    {
+        let value = self.value as u64;
+        (value - value % span_of(self.len)) as u32
+    }
+
+    // The last address.
+    pub fn last(self) -> u32
+        ensures { λ r. ⌜ r ≡ last 32 (self .value) (self .len) ⌝ }
+    {
+        (self.first() as u64 + (span_of(self.len) - 1)) as u32
+    }
+
+    // The left half; of a single address, which has none, that address.
+    pub fn left(self) -> Self
+        ensures { λ r. ⌜ r ≡ leftHalf 32 self ⌝ }
+    {
+        if self.len < 32 {
+            Self {
+                value: self.first(),
+                len: self.len + 1,
+            }
+        } else {
+            self
+        }
+    }
+
+    // The right half; of a single address, which has none, that address.
+    pub fn right(self) -> Self
+        ensures { λ r. ⌜ r ≡ rightHalf 32 self ⌝ }
+    {
+        if self.len < 32 {
+            let len = self.len + 1;
+            Self {
+                value: (self.first() as u64 + span_of(len)) as u32,
+                len,
+            }
+        } else {
+            self
+        }
+    }
+
+    // Whether this prefix stands before another in a list: by value, then by length.
+    pub fn precedes(self, next: Prefix) -> bool
+        ensures { λ r. ⌜ r ≡ precedes (self .value) (self .len) (next .value) (next .len) ⌝ }
+    {
+        (self.value < next.value) | ((self.value == next.value) & (self.len < next.len))
+    }
+}

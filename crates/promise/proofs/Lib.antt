@@ -1,0 +1,2 @@
+-- Laws that every layer's writers cite.
+pub mod Over

@@ -1,0 +1,3 @@
+-- What every layer's promises share.
+pub mod Determined
+pub mod Over

@@ -1,0 +1,67 @@
+//! The published numbers and the shape of an answer: rules, "Numbers on the refusal lamp".
+
+pub const DONE: u32 = 0;
+pub const FILE_UNDER_5_BYTES: u32 = 1;
+pub const VERSION_NOT_1: u32 = 2;
+pub const SIZE_DIFFERS: u32 = 3;
+pub const LENGTH_ABOVE_32: u32 = 4;
+pub const BITS_PAST_LENGTH: u32 = 5;
+pub const PORT_OUTSIDE: u32 = 6;
+pub const NOT_ABOVE_BEFORE: u32 = 7;
+pub const TOO_MANY_ROUTES: u32 = 8;
+pub const OUTPUT_TOO_SHORT: u32 = 9;
+pub const NOT_HELD: u32 = 10;
+pub const NOT_IN_GOOD_ORDER: u32 = 11;
+pub const STRIDE_NOT_1_2_4: u32 = 12;
+pub const TOO_MANY_RUNS: u32 = 13;
+
+/// A refusal's number and its place.
+#[derive(Clone, Copy, PartialEq, Eq, Debug)]
+pub struct Refusal {
+    pub number: u32,
+    pub place: u32,
+}
+
+/// What a function of the C boundary answers: its number, and its array `answer`, the place first.
+#[derive(Clone, Copy, PartialEq, Eq, Debug)]
+pub struct Answer<const N: usize> {
+    pub number: u32,
+    pub answer: [u32; N],
+}
+
+impl<const N: usize> Answer<N> {
+    /// Done, with these results after the place 0; refused, with `kept` after the place.
+    ///
+    /// `kept` is what a refusal leaves of the results: zeros, but n as it was and the rows or nodes read so far.
+    pub(crate) fn of<const R: usize>(results: Result<[u32; R], Refusal>, kept: [u32; R]) -> Answer<N> {
+        match results {
+            Ok(words) => Answer { number: DONE, answer: place_first(0, words) },
+            Err(refusal) => Answer { number: refusal.number, answer: place_first(refusal.place, kept) },
+        }
+    }
+}
+
+fn place_first<const R: usize, const N: usize>(place: u32, results: [u32; R]) -> [u32; N] {
+    let mut answer = [place; N];
+    answer[1..].copy_from_slice(&results);
+    answer
+}
+
+pub(crate) fn refuse<T>(number: u32, place: u32) -> Result<T, Refusal> {
+    Err(Refusal { number, place })
+}
+
+/// Refuses 9 where `lent` has no room for `size` elements.
+pub(crate) fn check_room<T>(lent: &[T], size: usize) -> Result<(), Refusal> {
+    if size > lent.len() {
+        return refuse(OUTPUT_TOO_SHORT, 0);
+    }
+    Ok(())
+}
+
+/// Writes the output to the front of the lent memory, whose rest stays as it was; 9 where it is too short.
+pub(crate) fn write_out<T: Copy>(output: &[T], lent: &mut [T]) -> Result<(), Refusal> {
+    check_room(lent, output.len())?;
+    lent[..output.len()].copy_from_slice(output);
+    Ok(())
+}

@@ -1,0 +1,14 @@
+//! The reference against the rules: their examples word for word, every refusal, the faults they name, random runs.
+
+mod bench_examples;
+mod damaged;
+mod faults;
+mod list_and_file;
+mod prefixes;
+mod random_lists;
+mod refusals_of_image;
+mod refusals_of_list_and_file;
+mod refusals_of_table;
+mod runs_program;
+mod support;
+mod table_histories;

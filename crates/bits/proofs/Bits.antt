@@ -2,13 +2,13 @@
 use mathlib.Core.Path.{_≡_, refl, sym, ap, ap₂, _∙_, subst}
 use mathlib.Core.Logic.{_⊎_, inl, inr, ⊎-elim}
 use mathlib.Core.Bool.{Bool, true, false, Bool·beq, _&&_, false≢true}
-use mathlib.Core.List.{List, [], _∷_}
+use mathlib.Core.List.{List, [], _∷_, _++_}
 use Prim.Native.Nat.{ℕ, zero, suc, _+_, _*_, _-_, _/_, _%_, _^_, _<_, _≤_}
 use native.Mathlib.Omega.{arith}
 use native.Mathlib.Nat.{div-div-eq-div-mul, pow-suc, pow-succ', sub-zero, suc-sub-suc, add-mul, mul-assoc, div-eq-of-lt, mod-eq-of-lt, div-one}
 use lib.Dec.{eqb}
-use lib.ListN.{length, take}
-use lib.Pow.{shr-shr, high, low}
+use lib.ListN.{length, take, length-append}
+use lib.Pow.{shr-shr, pow-add}
 use borrow.Author.Tests.{eq-eqb, ne-eqb, eqb-true, eqb-false}
 use Rattle.bits.specs.Bits.{Bits, bit, value, bits, prefixBits, same, begins}
 use Rattle.bits.specs.Prefix.{span, head, matches}
@@ -180,3 +180,29 @@ eqb-sym a b =
 pub matches-begins : MatchesBegins
 matches-begins w v l a h p q =
     eqb-sym (head w l a) (head w l v) ∙ agree-begins l w v a h (div-eq-of-lt p ∙ sym (div-eq-of-lt q))
+
+-- bits one after the other
+
+pub value-append : (s q : Bits) → value (s ++ q) ≡ value s * 2 ^ length q + value q
+value-append [] q = omega arith
+value-append (b ∷ s) q =
+    let n : 2 ^ length (s ++ q) ≡ 2 ^ length s * 2 ^ length q = ap (λ (k : ℕ). 2 ^ k) (length-append s q) ∙ pow-add 2 (length s) (length q) in
+    let e : bit b * 2 ^ length (s ++ q) ≡ bit b * 2 ^ length s * 2 ^ length q =
+    ap (λ (x : ℕ). bit b * x) n ∙ sym (mul-assoc (bit b) (2 ^ length s) (2 ^ length q)) in
+    omega (arith, e, value-append s q, add-mul (bit b * 2 ^ length s) (value s) (2 ^ length q))
+
+pub begins-append : (path s a : Bits) → begins (path ++ s) (path ++ a) ≡ begins s a
+begins-append [] s a = refl
+begins-append (b ∷ path) s a = rw (beq-refl b) (begins-append path s a)
+
+-- the bit of a number that has k bits after it, where its bits are known up to there
+pub bit-at : (path : Bits) (w k l x : ℕ) (b : Bool) (s : Bits) → take l (bits w x) ≡ path ++ (b ∷ s) → w ≡ length path + suc k
+    → eqb (x / 2 ^ k % 2) 1 ≡ b
+unfolding bits
+bit-at path w k zero x b s e n = absurd (omega (arith, sym (length-append path (b ∷ s)) ∙ sym (ap length e)))
+bit-at [] zero k (suc l) x b s e n = absurd (omega arith)
+bit-at [] (suc w) k (suc l) x b s e n =
+    let z : w ≡ k = omega arith in ap (λ (j : ℕ). eqb (x / 2 ^ j % 2) 1) (sym z) ∙ cc
+bit-at (c ∷ path) zero k (suc l) x b s e n = absurd (omega arith)
+bit-at (c ∷ path) (suc w) k (suc l) x b s e n =
+    let t : take l (bits w x) ≡ path ++ (b ∷ s) = cc in bit-at path w k l x b s t (omega arith)

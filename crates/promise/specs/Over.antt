@@ -10,3 +10,11 @@ over out lent = out ++ drop (length out) lent
 -- three words stored one after the other
 abbrev pub put3 : List ℕ → ℕ → ℕ → ℕ → ℕ → List ℕ
 put3 words at a b c = set (set (set words at a) (at + 1) b) (at + 2) c
+
+-- what a call answers, and what it leaves in the memory it was lent to write
+pub record Outcome (A : Type 0) : Type 0 where
+  pub answer : A
+  pub lent : List ℕ
+
+abbrev pub outcome : {A : Type 0} → A → List ℕ → Outcome A
+outcome answer lent = record { answer = answer; lent = lent }

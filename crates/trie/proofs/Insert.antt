@@ -5,13 +5,15 @@ use mathlib.Core.Bool.{Bool, true, false, cond, true≢false}
 use mathlib.Core.List.{List, [], _∷_}
 use Prim.Native.Nat.{ℕ, zero, suc, _<_}
 use native.Mathlib.Omega.{arith}
+use lib.Dec.{eqb}
+use borrow.Author.Tests.{eq-eqb, ne-eqb}
 use Rattle.bits.specs.Bits.{Bits, same}
 use Rattle.bits.proofs.Bits.{same-refl, same-eq}
 use Rattle.bits.proofs.Tests.{way}
 use Rattle.trie.specs.Routes.{Routes, upd, side}
 use Rattle.trie.specs.Trie.{Trie, leaf, node, Holds, IsTrie, Top, over}
-use Rattle.trie.specs.Update.{down, insert}
-use Rattle.trie.specs.Theorems.{InsertIs}
+use Rattle.trie.specs.Update.{down, insert, growsOn, grows}
+use Rattle.trie.specs.Theorems.{InsertIs, GrowsIs}
 use Rattle.trie.proofs.Routes.{same-sym, upd-same, upd-other, upd-again, upd-none, upd-swap, upd-back}
 use Rattle.trie.proofs.Order.{over-irrefl, over-up, over-not-nil, under-not-nil}
 use Rattle.trie.proofs.Lookup.{top-none}
@@ -125,3 +127,40 @@ insert-kept (node s o c) = insert-node s o c (λ b. insert-kept (c b))
 -- a new prefix, or a new port of one that is held, keeps the rule
 pub insert-is : InsertIs
 insert-is t S q p pos h = insert-kept t S q p pos h
+
+-- whether an insertion makes a node more
+
+-- what goes on down is not the place's own
+pub lower-not-nil : (q s : Bits) → same q s ≡ false → cond (over q s) s q ≡ [] → ⊥
+lower-not-nil q s e = go (over q s) refl
+  where
+    go : (b : Bool) → over q s ≡ b → cond b s q ≡ [] → ⊥
+    go true f = over-not-nil q s f
+    go false f = under-not-nil q s (λ g. true≢false (sym (rw g (same-refl s)) ∙ e)) f
+
+grows-on : (x : Bits) (f : Bool → Bits → Bool) (T : Routes) → (x ≡ [] → ⊥) → ((b : Bool) (y : Bits) → f b y ≡ eqb (side b T y) 0)
+    → growsOn x f ≡ eqb (T x) 0
+grows-on [] f T ne h = absurd (ne refl)
+grows-on (b ∷ x) f T ne h = h b x
+
+grows-node : (s : Bits) (o : ℕ) (c : Bool → Trie) (S : Routes) (q : Bits) → IsTrie (node s o c) S
+    → ((b : Bool) (y : Bits) → grows y (c b) ≡ eqb (side b (upd S s 0) y) 0)
+    → grows q (node s o c) ≡ eqb (S q) 0
+grows-node s o c S q h below = go (same q s) refl (over q s) refl
+  where
+    go : (a : Bool) → same q s ≡ a → (v : Bool) → over q s ≡ v
+        → cond a false (growsOn (cond v s q) (λ b x. grows x (c b))) ≡ eqb (S q) 0
+    go true e v f = sym (ne-eqb (S q) 0 (λ z. omega (arith, h .some, h .own, ap S (same-eq q s e))))
+    go false e true f =
+        grows-on s (λ b x. grows x (c b)) (upd S s 0) (over-not-nil q s f) below
+        ∙ ap (λ (x : ℕ). eqb x 0) (upd-same S s 0)
+        ∙ sym (eq-eqb (S q) 0 (top-none S s (h .top) q f))
+    go false e false f =
+        grows-on q (λ b x. grows x (c b)) (upd S s 0)
+        (under-not-nil q s (λ g. true≢false (sym (rw g (same-refl s)) ∙ e)) f)
+        below
+        ∙ ap (λ (x : ℕ). eqb x 0) (upd-other S s q 0 e)
+
+pub grows-is : GrowsIs
+grows-is leaf S q h = sym (eq-eqb (S q) 0 (h q))
+grows-is (node s o c) S q h = grows-node s o c S q h (λ b y. grows-is (c b) (side b (upd S s 0)) y (h .rest b))

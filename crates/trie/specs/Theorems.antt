@@ -4,12 +4,13 @@ use mathlib.Core.Bool.{Bool, true, false}
 use mathlib.Core.Logic.{_⊎_}
 use mathlib.Core.List.{List, List·Memᴰ}
 use Prim.Native.Nat.{ℕ, _+_, _<_, _≤_}
+use lib.Dec.{eqb}
 use lib.ListN.{length}
 use Rattle.bits.specs.Bits.{Bits}
 use Rattle.trie.specs.Routes.{Route, Routes, upd, held, Distinct, Ported}
 use Rattle.trie.specs.Scan.{plainScan, scanList, scan}
 use Rattle.trie.specs.Trie.{Trie, leaf, IsTrie, port, reads}
-use Rattle.trie.specs.Update.{insert, insertAll, remove}
+use Rattle.trie.specs.Update.{insert, grows, insertAll, remove}
 
 -- what the plain scan answers: the port of a route that matches, none that matches being longer; or 0, and none matches
 abbrev pub PlainScanIs : Type 1
@@ -42,6 +43,10 @@ TrieExists = (rs : List Route) → Ported rs → IsTrie (insertAll leaf rs) (hel
 -- an announcement gives the trie of the changed set
 abbrev pub InsertIs : Type 0
 InsertIs = (t : Trie) (S : Routes) (q : Bits) (p : ℕ) → 0 < p → IsTrie t S → IsTrie (insert q p t) (upd S q p)
+
+-- it makes a node more exactly if the prefix was not held
+abbrev pub GrowsIs : Type 0
+GrowsIs = (t : Trie) (S : Routes) (q : Bits) → IsTrie t S → grows q t ≡ eqb (S q) 0
 
 -- a withdrawal of a route that is held gives the trie of the changed set
 abbrev pub RemoveIs : Type 0

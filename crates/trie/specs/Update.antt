@@ -23,6 +23,15 @@ insert q p (node s o c) =
     (node q p (λ b. down b s (c b) (λ x. insert x o (c b))))
     (node s o (λ b. down b q (c b) (λ x. insert x p (c b)))))
 
+-- whether an insertion makes a node more: "A new prefix makes n one larger"
+abbrev pub growsOn : Bits → (Bool → Bits → Bool) → Bool
+growsOn [] f = true
+growsOn (b ∷ x) f = f b x
+
+abbrev pub grows : Bits → Trie → Bool
+grows q leaf = true
+grows q (node s o c) = cond (same q s) false (growsOn (cond (over q s) s q) (λ b x. grows x (c b)))
+
 -- the routes of a list, inserted one after the other
 unfoldable pub insertAll : Trie → List Route → Trie
 insertAll t [] = t

@@ -1,0 +1,44 @@
+-- Laws of the list of elements by their numbers: one more at its end, and what is in it. Assumes nothing.
+use mathlib.Core.Path.{_≡_, refl, ap, _∙_}
+use mathlib.Core.Logic.{_⊎_, inl, inr}
+use mathlib.Core.List.{List, [], _∷_, _++_, map, List·Memᴰ, List·Memᴰ·cases-cons, List·Memᴰ·not-nil}
+use Prim.Native.Nat.{ℕ, zero, suc, _+_, _≤_, _<_}
+use native.Mathlib.Omega.{arith}
+use lib.ListN.{length}
+use Rattle.routes.specs.Routes.{listOf}
+
+module _ {X : Type 0} where
+  pub list-of-snoc : (R : ℕ → X) (k i : ℕ) → listOf R (suc k) i ≡ listOf R k i ++ (R (i + k) ∷ [])
+  unfolding listOf
+  list-of-snoc R zero i = let e : i + 0 ≡ i = omega arith in rw e
+  list-of-snoc R (suc k) i =
+      let e : i + 1 + k ≡ i + suc k = omega arith in
+      ap (λ (xs : List X). R i ∷ xs) (list-of-snoc R k (i + 1) ∙ ap (λ (j : ℕ). listOf R k (i + 1) ++ (R j ∷ [])) e)
+
+  pub length-list-of : (R : ℕ → X) (k i : ℕ) → length (listOf R k i) ≡ k
+  unfolding listOf
+  length-list-of R zero i = refl
+  length-list-of R (suc k) i = ap suc (length-list-of R k (i + 1))
+
+  pub map-list-of : {Y : Type 0} (f : X → Y) (R : ℕ → X) (k i : ℕ) → map f (listOf R k i) ≡ listOf (λ j. f (R j)) k i
+  unfolding listOf
+  map-list-of f R zero i = refl
+  map-list-of {Y} f R (suc k) i = ap (λ (ys : List Y). f (R i) ∷ ys) (map-list-of f R k (i + 1))
+
+  -- x is one of k elements from number i on
+  pub record Among (R : ℕ → X) (k i : ℕ) (x : X) : Type 0 where
+    pub at : ℕ
+    pub from : i ≤ at
+    pub below : at < i + k
+    pub is : x ≡ R at
+
+  among-more : (R : ℕ → X) (k i : ℕ) (x : X) → (List·Memᴰ x (listOf R k (i + 1)) → Among R k (i + 1) x)
+      → (x ≡ R i) ⊎ List·Memᴰ x (listOf R k (i + 1)) → Among R (suc k) i x
+  among-more R k i x rest (inl e) = record { at = i; from = omega arith; below = omega arith; is = e }
+  among-more R k i x rest (inr m) =
+      let a = rest m in record { at = a .at; from = omega arith; below = omega arith; is = a .is }
+
+  pub mem-list-of : (R : ℕ → X) (k i : ℕ) (x : X) → List·Memᴰ x (listOf R k i) → Among R k i x
+  unfolding listOf
+  mem-list-of R zero i x m = absurd (List·Memᴰ·not-nil m)
+  mem-list-of R (suc k) i x m = among-more R k i x (λ m′. mem-list-of R k (i + 1) x m′) (List·Memᴰ·cases-cons m)

@@ -1,0 +1,69 @@
+-- Defines the published refusals and what a call answers: rules, "Numbers on the refusal lamp". Assumes nothing.
+use mathlib.Core.Bool.{Bool, cond}
+use Prim.Native.Nat.{ℕ}
+use lib.Dec.{eqb}
+use Rattle.routes.specs.declared.Answer.{Answer}
+
+-- the column "When" of the table, line by line
+abbrev pub shortFile : ℕ
+shortFile = 1
+
+abbrev pub wrongVersion : ℕ
+wrongVersion = 2
+
+abbrev pub wrongSize : ℕ
+wrongSize = 3
+
+abbrev pub longPrefix : ℕ
+longPrefix = 4
+
+abbrev pub spareBits : ℕ
+spareBits = 5
+
+abbrev pub wrongPort : ℕ
+wrongPort = 6
+
+abbrev pub notAbove : ℕ
+notAbove = 7
+
+abbrev pub tooManyRoutes : ℕ
+tooManyRoutes = 8
+
+abbrev pub noRoom : ℕ
+noRoom = 9
+
+abbrev pub notHeld : ℕ
+notHeld = 10
+
+abbrev pub notInOrder : ℕ
+notInOrder = 11
+
+abbrev pub wrongStride : ℕ
+wrongStride = 12
+
+abbrev pub tooManyRuns : ℕ
+tooManyRuns = 13
+
+-- "At most 4,096 routes."
+abbrev pub mostRoutes : ℕ
+mostRoutes = 4096
+
+-- "A route is a prefix and a port, 1..4094."
+abbrev pub lastPort : ℕ
+lastPort = 4094
+
+-- "A refusal returns its number and a place, all other results 0"
+abbrev pub refused : ℕ → ℕ → Answer
+refused number place = record { number = number; place = place; count = 0 }
+
+-- "0 | done | 0"
+abbrev pub accepted : ℕ → Answer
+accepted count = record { number = 0; place = 0; count = count }
+
+-- the order of checks: the first test that fails gives the number, 0 if none does
+abbrev pub unless : Bool → ℕ → ℕ → ℕ
+unless fine number rest = cond fine rest number
+
+-- what comes after a check, if that accepts
+abbrev pub andThen : Answer → Answer → Answer
+andThen checked next = cond (eqb (checked .number) 0) next checked

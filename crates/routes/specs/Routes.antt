@@ -1,0 +1,48 @@
+-- Defines the routes of a list, and when a route and a list are valid: rules, "A route list is three 32-bit words a route".
+-- Routes are numbered, so that no list is taken apart: R i is route i. Assumes nothing.
+use mathlib.Core.Path.{_≡_}
+use mathlib.Core.Bool.{true}
+use mathlib.Core.List.{List, [], _∷_}
+use Prim.Native.Nat.{ℕ, zero, suc, _+_, _*_, _/_, _≤_, _<_}
+use lib.ListN.{length, getD}
+use Rattle.bits.specs.Bits.{prefixBits}
+use Rattle.bits.specs.Prefix.{Valid, precedes}
+use Rattle.trie.specs.Routes.{Route as BitRoute}
+use Rattle.routes.specs.Refusals.{mostRoutes, lastPort}
+use Rattle.routes.specs.declared.Route.{Route}
+
+abbrev pub route : ℕ → ℕ → ℕ → Route
+route value len port = record { value = value; len = len; port = port }
+
+-- "three 32-bit words a route: value, length, port": the one place that says where route i lies
+abbrev pub routeAt : List ℕ → ℕ → Route
+routeAt words i = route (getD words (i * 3) 0) (getD words (i * 3 + 1) 0) (getD words (i * 3 + 2) 0)
+
+-- how many whole routes there are
+abbrev pub routeCount : List ℕ → ℕ
+routeCount words = length words / 3
+
+-- the words of a route
+abbrev pub routeWords : Route → List ℕ
+routeWords r = r .value ∷ r .len ∷ r .port ∷ []
+
+-- k elements from number i on
+unfoldable pub listOf : {X : Type 0} → (ℕ → X) → ℕ → ℕ → List X
+listOf R zero i = []
+listOf R (suc k) i = R i ∷ listOf R k (i + 1)
+
+-- "A route is a prefix and a port, 1..4094."
+pub record ValidRoute (w : ℕ) (r : Route) : Type 0 where
+  pub prefix : Valid w (r .value) (r .len)
+  pub some : 0 < r .port
+  pub most : r .port ≤ lastPort
+
+-- "strictly ascending by value, then by length. At most 4,096 routes. The empty list is valid."
+pub record ValidList (w : ℕ) (R : ℕ → Route) (n : ℕ) : Type 0 where
+  pub few : n ≤ mostRoutes
+  pub each : (i : ℕ) → i < n → ValidRoute w (R i)
+  pub rises : (i : ℕ) → i + 1 < n → precedes (R i .value) (R i .len) (R (i + 1) .value) (R (i + 1) .len) ≡ true
+
+-- a route by the bits of its prefix
+abbrev pub bitRoute : ℕ → Route → BitRoute
+bitRoute w r = record { prefix = prefixBits w (r .value) (r .len); port = r .port }

@@ -1,0 +1,200 @@
+// The route list: its refusals, its check and its plain scan. Three words a route: value, length, port.
+ghost use mathlib.Core.Path.{_≡_};
+ghost use mathlib.Core.Bool.{cond};
+ghost use Prim.Native.Nat.{_+_, _*_, _<_};
+ghost use lib.ListN.{getD};
+ghost use Rattle.prefix.specs.Prefixes.{prefix};
+ghost use Rattle.routes.specs.Refusals.{refused, accepted};
+ghost use Rattle.routes.specs.Routes.{routeAt};
+ghost use Rattle.routes.specs.Check.{isPort, prefixFault, routeFault, faultAt, listCheck};
+ghost use Rattle.routes.specs.Scan.{routeMatches, listScan};
+use prefix::Prefix;
+use refusal::LAST_PORT;
+use refusal::LONG_PREFIX;
+use refusal::MOST_ROUTES;
+use refusal::NOT_ABOVE;
+use refusal::SPARE_BITS;
+use refusal::TOO_MANY_ROUTES;
+use refusal::WRONG_PORT;
+use refusal::WRONG_SIZE;
+
+pub mod refusal;
+
+// What a call answers: the refusal's number and place, both 0 where it is done, and its one other result.
+pub struct Answer {
+    pub number: u32,
+    pub place: u32,
+    pub count: u32,
+}
+
+// A route: a prefix and a port.
+pub struct Route {
+    pub value: u32,
+    pub len: u32,
+    pub port: u32,
+}
+
+impl Answer {
+    // A refusal: its number and its place, and the other result 0.
+    pub fn refused(number: u32, place: u32) -> Self
+        ensures { λ r. ⌜ r ≡ refused number place ⌝ }
+    {
+        Self {
+            number,
+            place,
+            count: 0,
+        }
+    }
+
+    // Done, with a result.
+    pub fn accepted(count: u32) -> Self
+        ensures { λ r. ⌜ r ≡ accepted count ⌝ }
+    {
+        Self {
+            number: 0,
+            place: 0,
+            count,
+        }
+    }
+}
+
+impl Route {
+    // The route's prefix, for the match test and the order.
+    fn prefix(self) -> Prefix
+        ensures { λ r. ⌜ r ≡ prefix (self .value) (self .len) ⌝ }
+    {
+        Prefix::new(self.value, self.len)
+    }
+}
+
+// Whether a route may have the port: 1..4094.
+pub fn is_port(port: u32) -> bool
+    ensures { λ r. ⌜ r ≡ isPort port ⌝ }
+{
+    (0 < port) & (port <= LAST_PORT)
+}
+
+// What is wrong with a prefix, 0 if nothing is: 4, its length is above 32; 5, bits are set past its length.
+pub fn prefix_fault(value: u32, len: u32) -> u32
+    ensures { λ r. ⌜ r ≡ prefixFault 32 value len 0 ⌝ }
+{
+    if 32 < len {
+        return LONG_PREFIX;
+    }
+    if Prefix::new(value, len).is_clear() {
+        0
+    } else {
+        SPARE_BITS
+    }
+}
+
+// What is wrong with a route by itself, 0 if nothing is: 4 and 5 on its prefix; 6, its port is outside 1..4094.
+pub fn route_fault(route: Route) -> u32
+    ensures { λ r. ⌜ r ≡ routeFault 32 route 0 ⌝ }
+{
+    let fault = prefix_fault(route.value, route.len);
+    if fault != 0 {
+        return fault;
+    }
+    if is_port(route.port) { 0 } else { WRONG_PORT }
+}
+
+// Word k of route i; 0 past the end of the list.
+fn word_at(list: &[u32], i: usize, k: usize) -> u32
+    requires { ⌜ k < 3 ⌝ }
+    ensures { λ r. ⌜ r ≡ getD (now (list .entry)) (i * 3 + k) 0 ⌝ }
+{
+    if list.len() / 3 < i {
+        return 0;
+    }
+    let row = i * 3;
+    if k < list.len() - row {
+        list[row + k]
+    } else {
+        0
+    }
+}
+
+// Route i of a list; words past the end of the list count as 0.
+pub fn route_at(list: &[u32], i: usize) -> Route
+    ensures { λ r. ⌜ r ≡ routeAt (now (list .entry)) i ⌝ }
+{
+    Route {
+        value: word_at(list, i, 0),
+        len: word_at(list, i, 1),
+        port: word_at(list, i, 2),
+    }
+}
+
+// What is wrong with route i of a list, 0 if nothing is: 4, 5, 6 on it by itself; 7, it is not above the one before.
+fn fault_at(list: &[u32], i: usize) -> u32
+    ensures { λ r. ⌜ r ≡ faultAt 32 (routeAt (now (list .entry))) i ⌝ }
+{
+    let route = route_at(list, i);
+    let fault = route_fault(route);
+    if fault != 0 {
+        return fault;
+    }
+    if i == 0 {
+        return 0;
+    }
+    let before = route_at(list, i - 1);
+    if before.prefix().precedes(route.prefix()) {
+        0
+    } else {
+        NOT_ABOVE
+    }
+}
+
+// Checks a list. Refuses 3, no whole routes, and 8, more than 4,096, at place 0; then the first route that is at fault,
+// by its number from 0, with its first fault of 4, 5, 6, 7.
+pub fn check_list(list: &[u32]) -> Answer
+    ensures { λ r. ⌜ r ≡ listCheck 32 (now (list .entry)) ⌝ }
+{
+    if list.len() % 3 != 0 {
+        return Answer::refused(WRONG_SIZE, 0);
+    }
+    let n = list.len() / 3;
+    if MOST_ROUTES < n {
+        return Answer::refused(TOO_MANY_ROUTES, 0);
+    }
+    let mut i = 0;
+    while i < n {
+        let fault = fault_at(list, i);
+        if fault != 0 {
+            return Answer::refused(fault, i as u32);
+        }
+        i += 1;
+    }
+    Answer::accepted(0)
+}
+
+// The route's port if it matches the address, else the port so far.
+fn port_of_match(route: Route, address: u32, port: u32) -> u32
+    ensures { λ r. ⌜ r ≡ cond (routeMatches 32 address route) (route .port) port ⌝ }
+{
+    if route.prefix().matches(address) {
+        route.port
+    } else {
+        port
+    }
+}
+
+// The plain scan: of the routes that match, the port of the longest; 0 if none matches. Refuses as the check does.
+pub fn scan_list(list: &[u32], address: u32) -> Answer
+    ensures { λ r. ⌜ r ≡ listScan 32 (now (list .entry)) address ⌝ }
+{
+    let checked = check_list(list);
+    if checked.number != 0 {
+        return checked;
+    }
+    let n = list.len() / 3;
+    let mut port = 0;
+    let mut i = 0;
+    while i < n {
+        // In a valid list a longer match stands after a shorter one: the last match is the longest.
+        port = port_of_match(route_at(list, i), address, port);
+        i += 1;
+    }
+    Answer::accepted(port)
+}

@@ -117,7 +117,7 @@ best-is (node (b ∷ s) p c) S h = record { pos = h .some; own = h .own; first =
     first (x ∷ q) k = h .top (x ∷ q) k
 
 -- once the holder is out, the place's own prefix is not in S
-own-out : (S : Routes) (s : Bits) → Top S s → upd S s 0 [] ≡ 0
+pub own-out : (S : Routes) (s : Bits) → Top S s → upd S s 0 [] ≡ 0
 own-out S [] h = refl
 own-out S (b ∷ s) h = top-none S (b ∷ s) h [] refl
 

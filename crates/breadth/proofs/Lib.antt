@@ -1,0 +1,14 @@
+-- Laws of the image.
+pub mod Flat
+pub mod Numbering
+pub mod Counts
+pub mod Digits
+pub mod Longer
+pub mod Words
+pub mod Walk
+pub mod Slots
+pub mod Descent
+pub mod Image
+pub mod Alike
+pub mod Listed
+pub mod Examples

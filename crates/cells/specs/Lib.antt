@@ -1,0 +1,11 @@
+-- Rows as memory, the trie that they hold, and the calls on them.
+pub mod Rows
+pub mod Words
+pub mod Order
+pub mod Holds
+pub mod Lookup
+pub mod Check
+pub mod Save
+pub mod Announce
+pub mod Withdraw
+pub mod Theorems

@@ -1,0 +1,4 @@
+-- Laws of this layer that belong to no one function.
+pub mod Turns
+pub mod Lookups
+pub mod Unique

@@ -1,0 +1,3 @@
+-- What a lookup answers, and what a caller reads off it.
+pub mod Found
+pub mod Theorems

@@ -15,8 +15,8 @@ use Rattle.routes.specs.declared.Route.{Route}
 use Rattle.cells.specs.Rows.{Mem, Stores, Closed, child, routeOf, withRoute, withChild, leafRow}
 use Rattle.cells.specs.Holds.{Holds, times, Placed}
 use Rattle.cells.specs.Lookup.{bitBefore}
-use Rattle.cells.specs.Announce.{isSame, isOver, pick, sink}
-use Rattle.cells.specs.Withdraw.{isLast, bestBelow, Cut, cut, relink}
+use Rattle.cells.specs.Announce.{isSame, isOver, pick, sink, announced}
+use Rattle.cells.specs.Withdraw.{isLast, bestBelow, zeroRow, Cut, cut, relink, closeGap, withdrawn}
 use Rattle.cells.specs.declared.Row.{Row}
 use Rattle.cells.proofs.Holds.{Below, below-child, below-once, child-lt}
 use Rattle.cells.proofs.Announce.{route-keeps}
@@ -43,7 +43,7 @@ module _ {S : Type 0} (get : S → Mem) (put : S → ℕ → Row → S) (room : 
   put-closed m r n x lies h k i l b =
       ⊎-elim
       (λ (e : eqb i r ≡ true).
-        subst (λ (y : Row). child y b < n) (sym (ap (get (put m r x)) (eqb-true i r e) ∙ st .get-same m r x lies)) (k b))
+      subst (λ (y : Row). child y b < n) (sym (ap (get (put m r x)) (eqb-true i r e) ∙ st .get-same m r x lies)) (k b))
       (λ (e : eqb i r ≡ false). subst (λ (y : Row). child y b < n) (sym (st .get-other m r i x (eqb-false i r e))) (h i l b))
       (way (eqb i r))
 
@@ -64,7 +64,7 @@ module _ {S : Type 0} (get : S → Mem) (put : S → ℕ → Row → S) (room : 
         let Y : Row = withRoute (get m r) U in
         let on : room (sink get put w k (put m r Y) n c D) ≡ room m = sink-room k (put m r Y) n c D ∙ st .room-put m r Y in
         let new : room (put (put m r (withChild Y b n)) n (leafRow D)) ≡ room m =
-            st .room-put (put m r (withChild Y b n)) n (leafRow D) ∙ st .room-put m r (withChild Y b n) in
+        st .room-put (put m r (withChild Y b n)) n (leafRow D) ∙ st .room-put m r (withChild Y b n) in
         pick-room (isSame q (get m r)) (put m r (withRoute (get m r) q)) _ (st .room-put m r (withRoute (get m r) q))
         (pick-room (eqb c 0) (put (put m r (withChild Y b n)) n (leafRow D)) (sink get put w k (put m r Y) n c D) new on)
       where
@@ -108,8 +108,8 @@ module _ {S : Type 0} (get : S → Mem) (put : S → ℕ → Row → S) (room : 
         let Y : Row = withRoute (get m r) H in
         let kids : ((d : Bool) → child Y d < n) = (λ d. subst (λ (j : ℕ). j < n) (sym (route-keeps (get m r) H d)) (h r l d)) in
         let on : CutWell m n (cut get put w k (put m r Y) c D) =
-            after (put m r Y) (cut get put w k (put m r Y) c D) (st .room-put m r Y)
-            (cut-well k (put m r Y) n c D (rw (st .room-put m r Y) lies) (h r l b) (put-closed m r n Y (omega arith) h kids)) in
+        after (put m r Y) (cut get put w k (put m r Y) c D) (st .room-put m r Y)
+        (cut-well k (put m r Y) n c D (rw (st .room-put m r Y) lies) (h r l b) (put-closed m r n Y (omega arith) h kids)) in
         let off : CutWell m n (record { rows = put m r (withChild Y b 0); freed = c }) = record {
           rooms = st .room-put m r (withChild Y b 0);
           closed = put-closed m r n (withChild Y b 0) (omega arith) h (with-closed Y b n (omega arith) kids);
@@ -119,6 +119,58 @@ module _ {S : Type 0} (get : S → Mem) (put : S → ℕ → Row → S) (room : 
       where
         after : (m′ : S) (x : Cut S) → room m′ ≡ room m → CutWell m′ n x → CutWell m n x
         after m′ x e g = record { rooms = g .rooms ∙ e; closed = g .closed; freed = g .freed }
+
         either-way : (a : Bool) (u v : Cut S) → CutWell m n u → CutWell m n v → CutWell m n (cond a u v)
         either-way true u v f g = f
         either-way false u v f g = g
+
+  -- the calls themselves keep the room
+  pub announced-room : (w : ℕ) (m : S) (n : ℕ) (q : Route) → room (announced get put w m n q) ≡ room m
+  unfolding announced
+  announced-room w m n q = go (eqb n 0)
+    where
+      go : (a : Bool) → room (cond a (put m 0 (leafRow q)) (sink get put w w m n 0 q)) ≡ room m
+      go true = st .room-put m 0 (leafRow q)
+      go false = sink-room w w m n 0 q
+
+  pub cut-room : (w k : ℕ) (m : S) (r : ℕ) (q : Route) → room (cut get put w k m r q .rows) ≡ room m
+  unfolding cut
+  cut-room w zero m r q = refl
+  cut-room w (suc k) m r q =
+      let a : Bool = isSame q (get m r) in
+      let z : Route = bestBelow w (get m) k (get m r) in
+      let D : Route = pick a z q in
+      let H : Route = pick a z (routeOf (get m r)) in
+      let b : Bool = bitBefore (D .value) k in
+      let c : ℕ = child (get m r) b in
+      let Y : Row = withRoute (get m r) H in
+      either-way (isLast D (get m c)) (record { rows = put m r (withChild Y b 0); freed = c }) (cut get put w k (put m r Y) c D)
+      (st .room-put m r (withChild Y b 0)) (cut-room w k (put m r Y) c D ∙ st .room-put m r Y)
+    where
+      either-way : (a : Bool) (u v : Cut S) → room (u .rows) ≡ room m → room (v .rows) ≡ room m → room (cond a u v .rows) ≡ room m
+      either-way true u v e f = e
+      either-way false u v e f = f
+
+  pub withdrawn-room : (w : ℕ) (m : S) (n : ℕ) (q : Route) → room (withdrawn get put w m n q) ≡ room m
+  unfolding withdrawn closeGap
+  withdrawn-room w m n q = go (eqb n 1)
+    where
+      z : Cut S
+      z = cut get put w w m 0 q
+
+      last : ℕ
+      last = n - 1
+
+      s′ : S
+      s′ = relink get put w w (z .rows) 0 (get (z .rows) last .value) last (z .freed)
+
+      gap : (b : Bool) → room (cond b (z .rows) (put s′ (z .freed) (get s′ last))) ≡ room m
+      gap true = cut-room w w m 0 q
+      gap false =
+          st .room-put s′ (z .freed) (get s′ last)
+          ∙ relink-room w w (z .rows) 0 (get (z .rows) last .value) last (z .freed) ∙ cut-room w w m 0 q
+
+      go : (a : Bool)
+          → room (cond a (put m 0 zeroRow) (put (cond (eqb (z .freed) last) (z .rows) (put s′ (z .freed) (get s′ last))) last zeroRow)) ≡ room m
+      go true = st .room-put m 0 zeroRow
+      go false = st .room-put (cond (eqb (z .freed) last) (z .rows) (put s′ (z .freed) (get s′ last))) last zeroRow ∙ gap (eqb (z .freed) last)

@@ -1,0 +1,45 @@
+use mathlib.Core.Path.{_≡_, ap, ap₂, _∙_}
+use mathlib.Core.List.{List}
+use Prim.Native.Nat.{ℕ}
+use Rattle.cells.specs.Words.{rowAt, storeRow}
+use Rattle.cells.specs.Withdraw.{relink}
+use Rattle.cells.specs.declared.Row.{Row}
+use borrow.Author.Needs.{needs}
+use Rattle.inner.proofs.refilling.move_row.Statement.{statement}
+use Rattle.inner.proofs.refilling.move_row.Tie as tie
+
+row-at-requires : tie.Need-row-at-requires
+row-at-requires c κs = search needs
+
+relink-from-root-requires : tie.Need-relink-from-root-requires
+relink-from-root-requires c κs = search needs
+
+row-at-requires-2 : tie.Need-row-at-requires-2
+row-at-requires-2 c κs = search needs
+
+store-row-requires : tie.Need-store-row-requires
+store-row-requires c κs = search needs
+
+same-length : tie.Need-same-length
+same-length c = search needs
+
+returns : tie.Need-returns
+returns c =
+    let s = c .before .before in
+    let r = c .before .before .before .before .before .before .before .before in
+    let d = c .before .before .before .before .before .before .before .before .before .before .before .before .before .args in
+    let e = r .relink-from-root .ensures ∙ ap (λ (x : Row). relink rowAt storeRow 32 32 (d .rows .now) 0 (x .value) (d .last) (d .freed)) (c .before .before .before .before .before .before .before .before .before .before .row-at .ensures) in
+    s .store-row .ensures
+    ∙ ap (λ (x : Row). storeRow (r .relink-from-root .last .0) (d .freed) x) (c .before .before .before .before .row-at2 .ensures)
+    ∙ ap (λ (v : List ℕ). storeRow v (d .freed) (rowAt v (d .last))) e
+
+pub move-row-spec : {M : Type 1} → statement M
+move-row-spec =
+    tie.close
+    (tie.spec
+    row-at-requires
+    relink-from-root-requires
+    row-at-requires-2
+    store-row-requires
+    same-length
+    returns)

@@ -1,0 +1,3 @@
+-- One step of an update, as the code takes it.
+pub mod Plan
+pub mod Refill

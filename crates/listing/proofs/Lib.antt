@@ -1,0 +1,4 @@
+-- Laws of the run listing.
+pub mod Runs
+pub mod Boundaries
+pub mod Listing

@@ -1,0 +1,68 @@
+-- The words of a table obey the laws of a store of rows: a stored row is read back, and no other row changes. Assumes nothing.
+use mathlib.Core.Path.{_≡_, refl, sym, ap, _∙_}
+use mathlib.Core.List.{List, [], _∷_, _++_, append-assoc}
+use Prim.Native.Nat.{ℕ, suc, _+_, _*_, _/_, _<_, _≤_}
+use native.Mathlib.Omega.{arith}
+use native.Mathlib.Nat.{add-zero}
+use native.Mathlib.Numerals.{towards-suc}
+use lib.ListN.{length, getD, set, take, drop, List·getD-append}
+use lib.Seq.{sets, length-sets, sets-eq, length-take-le, getD-append-add, getD-set-other}
+use Rattle.cells.specs.Rows.{Stores}
+use Rattle.cells.specs.Words.{rowCount, rowAt, storeRow}
+use Rattle.cells.specs.declared.Row.{Row}
+
+-- words stored one after the other, read back, and a word that lies elsewhere
+get-sets-same : (vs ws : List ℕ) (at k : ℕ) → k < length vs → at + length vs ≤ length ws → getD (sets ws at vs) (at + k) 0 ≡ getD vs k 0
+get-sets-same vs ws at k h room =
+    let n : length (take at ws) ≡ at = length-take-le at ws (omega arith) in
+    ap (λ (l : List ℕ). getD l (at + k) 0) (sets-eq vs ws at room ∙ append-assoc (take at ws) vs (drop (at + length vs) ws))
+    ∙ ap (λ (i : ℕ). getD (take at ws ++ (vs ++ drop (at + length vs) ws)) (i + k) 0) (sym n)
+    ∙ getD-append-add (take at ws) (vs ++ drop (at + length vs) ws) k 0
+    ∙ List·getD-append vs (drop (at + length vs) ws) 0 k h
+
+get-sets-other : (vs ws : List ℕ) (at i : ℕ) → (at ≤ i → i < at + length vs → ⊥) → getD (sets ws at vs) i 0 ≡ getD ws i 0
+get-sets-other [] ws at i out = refl
+get-sets-other (v ∷ vs) ws at i out =
+    get-sets-other vs (set ws at v) (suc at) i (λ l h. out (omega arith) (omega arith))
+    ∙ getD-set-other ws at i v 0 (λ z. out (omega arith) (omega arith))
+
+-- a row's words
+abbrev rowWords : Row → List ℕ
+rowWords x = x .value ∷ x .len ∷ x .port ∷ x .left ∷ x .right ∷ []
+
+store-row-sets : (ws : List ℕ) (r : ℕ) (x : Row) → storeRow ws r x ≡ sets ws (r * 5) (rowWords x)
+store-row-sets ws r x = simp towards-suc
+
+module _ (ws : List ℕ) (r : ℕ) (x : Row) where
+  rows-put : rowCount (storeRow ws r x) ≡ rowCount ws
+  rows-put = ap (λ (n : ℕ). n / 5) (ap length (store-row-sets ws r x) ∙ length-sets ws (r * 5) (rowWords x))
+
+  row-same : r < rowCount ws → rowAt (storeRow ws r x) r ≡ x
+  row-same h = λ j. record {
+    value = (ap (λ (i : ℕ). getD (storeRow ws r x) i 0) (sym (add-zero (r * 5))) ∙ word 0 (omega arith)) j;
+    len = word 1 (omega arith) j;
+    port = word 2 (omega arith) j;
+    left = word 3 (omega arith) j;
+    right = word 4 (omega arith) j;
+  }
+    where
+      word : (k : ℕ) → k < 5 → getD (storeRow ws r x) (r * 5 + k) 0 ≡ getD (rowWords x) k 0
+      word k l =
+          ap (λ (s : List ℕ). getD s (r * 5 + k) 0) (store-row-sets ws r x)
+          ∙ get-sets-same (rowWords x) ws (r * 5) k l (omega arith)
+
+  row-other : (i : ℕ) → (i ≡ r → ⊥) → rowAt (storeRow ws r x) i ≡ rowAt ws i
+  row-other i ne = λ j. record {
+    value = word (i * 5) (λ l h. ne (omega arith)) j;
+    len = word (i * 5 + 1) (λ l h. ne (omega arith)) j;
+    port = word (i * 5 + 2) (λ l h. ne (omega arith)) j;
+    left = word (i * 5 + 3) (λ l h. ne (omega arith)) j;
+    right = word (i * 5 + 4) (λ l h. ne (omega arith)) j;
+  }
+    where
+      word : (k : ℕ) → (r * 5 ≤ k → k < r * 5 + 5 → ⊥) → getD (storeRow ws r x) k 0 ≡ getD ws k 0
+      word k out =
+          ap (λ (s : List ℕ). getD s k 0) (store-row-sets ws r x) ∙ get-sets-other (rowWords x) ws (r * 5) k out
+
+pub words-stores : Stores rowAt storeRow rowCount
+words-stores = record { room-put = rows-put; get-same = row-same; get-other = λ ws r i x ne. row-other ws r x i ne }

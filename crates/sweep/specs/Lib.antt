@@ -1,0 +1,2 @@
+-- What the sweep reads and leaves.
+pub mod Sweep

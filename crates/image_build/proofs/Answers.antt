@@ -1,0 +1,116 @@
+-- What the build answers at each return. Assumes nothing.
+use mathlib.Core.Path.{_≡_, sym, ap, ap₂, _∙_}
+use mathlib.Core.Bool.{true, false, and-false, false≢true}
+use mathlib.Core.List.{List}
+use Prim.Native.Nat.{ℕ, zero, suc, _+_, _-_, _*_, _/_, _^_, _≤_, _<_}
+use native.Mathlib.Omega.{arith}
+use lib.Dec.{leb}
+use lib.ListN.{length}
+use borrow.Author.Tests.{eq-eqb, ne-eqb, le-leb, lt-leb}
+use Rattle.promise.specs.Over.{over}
+use Rattle.routes.specs.Refusals.{noRoom, wrongStride}
+use Rattle.routes.specs.Routes.{routeAt, routeCount, ValidList}
+use Rattle.routes.specs.Check.{listCheck}
+use Rattle.routes.specs.Theorems.{Words}
+use Rattle.routes.specs.declared.Answer.{Answer}
+use Rattle.routes.proofs.Check.{accepted-valid}
+use Rattle.breadth.specs.Node.{nodeSize}
+use Rattle.breadth.specs.Image.{imagePaths, imageNodes, imagePorts}
+use Rattle.breadth.specs.Lookup.{isStride}
+use Rattle.breadth.specs.Theorems.{Strided}
+use Rattle.stretch.specs.Count.{nodesCount}
+use Rattle.stretch.proofs.Readied.{sizes}
+use Rattle.image_build.specs.declared.Built.{Built}
+use Rattle.image_build.specs.Build.{left, refusedBuild, doneBuild, listed, imageInto, buildImage}
+use Rattle.image_build.specs.Needs.{mostNodes, Roomy}
+
+-- a stride is 1, 2 or 4
+pub stride-bounds : (s : ℕ) → isStride s ≡ true → (0 < s) × (s ≤ 4)
+stride-bounds zero t = absurd (false≢true t)
+stride-bounds (suc zero) t = (omega arith, omega arith)
+stride-bounds (suc (suc zero)) t = (omega arith, omega arith)
+stride-bounds (suc (suc (suc zero))) t = absurd (false≢true t)
+stride-bounds (suc (suc (suc (suc zero)))) t = (omega arith, omega arith)
+stride-bounds (suc (suc (suc (suc (suc k))))) t =
+    let s = suc (suc (suc (suc (suc k)))) in
+    absurd (false≢true (simp (ne-eqb s 1 (λ q. omega arith), ne-eqb s 2 (λ q. omega arith), ne-eqb s 4 (λ q. omega arith)) at t))
+
+module _ (w s : ℕ) (list nodes ports : List ℕ) where
+  pub build-wrong-stride : isStride s ≡ false → (b : Built) → b ≡ refusedBuild wrongStride 0 → left b nodes ports ≡ buildImage w s list nodes ports
+  unfolding buildImage
+  build-wrong-stride t b e = rw t (ap (λ (x : Built). left x nodes ports) e)
+
+  -- where the stride is right, by the list's check
+  module _ (t : isStride s ≡ true) (checked : Answer) (is : checked ≡ listCheck w list) where
+    pub build-refused : (checked .number ≡ 0 → ⊥) → (b : Built) → b ≡ refusedBuild (checked .number) (checked .place)
+        → left b nodes ports ≡ buildImage w s list nodes ports
+    unfolding buildImage
+    build-refused f b e =
+        let n : listCheck w list .number ≡ 0 → ⊥ = λ z. f (ap (λ (a : Answer). a .number) is ∙ z) in
+        rw (t, ne-eqb (listCheck w list .number) 0 n)
+        (ap (λ (x : Built). left x nodes ports) (e ∙ ap (λ (a : Answer). refusedBuild (a .number) (a .place)) is))
+
+    module _ (z : checked .number ≡ 0) where
+      accepted : buildImage w s list nodes ports ≡ imageInto s (w / s) (listed w list) nodes ports
+      unfolding buildImage
+      accepted = rw (t, eq-eqb (listCheck w list .number) 0 (sym (ap (λ (a : Answer). a .number) is) ∙ z))
+
+      -- a list of words that is accepted is valid
+      pub accepted-list : Words w list → ValidList w (routeAt list) (routeCount list)
+      accepted-list fits = accepted-valid w list fits (sym (ap (λ (a : Answer). a .number) is) ∙ z)
+
+      module _ (st : Strided w s) (fits : Words w list) (count slots : ℕ) (counted : count ≡ nodesCount w (routeAt list) (routeCount list) s) (are : slots ≡ 2 ^ s) where
+        abbrev k : ℕ
+        k = w / s
+
+        nodes-are : length (imageNodes s k (listed w list)) ≡ count * nodeSize
+        nodes-are = sizes w s list (routeCount list) st (accepted-list fits) .1 ∙ ap (λ (m : ℕ). m * nodeSize) (sym counted)
+
+        ports-are : length (imagePorts s k (listed w list)) ≡ count * (slots - 1) + 1
+        ports-are =
+            sizes w s list (routeCount list) st (accepted-list fits) .2
+            ∙ ap₂ (λ (m n : ℕ). m * (n - 1) + 1) (sym counted) (sym are)
+
+        -- 9 for nodes
+        pub build-no-nodes : length nodes < count * nodeSize → (b : Built) → b ≡ refusedBuild noRoom 0 → left b nodes ports ≡ buildImage w s list nodes ports
+        build-no-nodes h b e =
+            let u : length nodes < length (imageNodes s k (listed w list)) = omega (arith, nodes-are) in
+            sym (accepted ∙ rw (lt-leb (length (imageNodes s k (listed w list))) (length nodes) u) (ap (λ (x : Built). left x nodes ports) (sym e)))
+
+        -- 9 for ports
+        pub build-no-ports : length ports < count * (slots - 1) + 1 → (b : Built) → b ≡ refusedBuild noRoom 0 → left b nodes ports ≡ buildImage w s list nodes ports
+        build-no-ports h b e =
+            let u : length ports < length (imagePorts s k (listed w list)) = omega (arith, ports-are) in
+            sym (accepted
+            ∙ rw (lt-leb (length (imagePorts s k (listed w list))) (length ports) u, and-false (leb (length (imageNodes s k (listed w list))) (length nodes)))
+            (ap (λ (x : Built). left x nodes ports) (sym e)))
+
+        pub build-done : count * nodeSize ≤ length nodes → count * (slots - 1) + 1 ≤ length ports
+            → {nodes′ ports′ : List ℕ} → nodes′ ≡ over (imageNodes s k (listed w list)) nodes → ports′ ≡ over (imagePorts s k (listed w list)) ports
+            → (b : Built) → b ≡ doneBuild count (count * (slots - 1) + 1) → left b nodes′ ports′ ≡ buildImage w s list nodes ports
+        build-done h l {nodes′} {ports′} a c b e =
+            let u : length (imageNodes s k (listed w list)) ≤ length nodes = omega (arith, nodes-are) in
+            let v : length (imagePorts s k (listed w list)) ≤ length ports = omega (arith, ports-are) in
+            let m : count ≡ length (imagePaths s k (listed w list)) = counted ∙ sym (sizes w s list (routeCount list) st (accepted-list fits) .0) in
+            let d : b ≡ doneBuild (length (imagePaths s k (listed w list))) (length (imagePorts s k (listed w list)))
+            = e ∙ ap₂ (λ (x y : ℕ). doneBuild x y) m (sym ports-are) in
+            sym (accepted
+            ∙ rw (le-leb (length (imageNodes s k (listed w list))) (length nodes) u, le-leb (length (imagePorts s k (listed w list))) (length ports) v)
+            (sym (λ i. record { built = d i; nodes = a i; ports = c i })))
+
+-- the room, as the code has tested it
+pub roomy : (w s : ℕ) (list nodes ports : List ℕ) (n count slots : ℕ) → isStride s ≡ true → slots ≡ 2 ^ s → slots ≤ 16 → n * 3 ≤ length list
+    → ValidList w (routeAt list) n → count ≡ nodesCount w (routeAt list) n s → count ≤ mostNodes
+    → count * nodeSize ≤ length nodes → count * (slots - 1) + 1 ≤ length ports → Roomy w list n s slots nodes ports
+roomy w s list nodes ports n count slots t are few whole ok counted small a b = record {
+  some = stride-bounds s t .0;
+  most = stride-bounds s t .1;
+  listed = t;
+  are = are;
+  few = few;
+  whole = whole;
+  valid = ok;
+  nodesFit = omega (arith, counted);
+  portsFit = let m : count * (slots - 1) ≡ nodesCount w (routeAt list) n s * (slots - 1) = ap (λ (k : ℕ). k * (slots - 1)) counted in omega (arith, m);
+  small = omega (arith, counted);
+}

@@ -1,0 +1,73 @@
+-- The image written where there is room for it: the root put first, then all nodes. Assumes nothing.
+use mathlib.Core.Path.{_≡_, sym, ap, ap₂, _∙_, subst}
+use mathlib.Core.List.{List, [], _∷_}
+use Prim.Native.Nat.{ℕ, _+_, _-_, _*_, _/_, _^_, _≤_}
+use native.Mathlib.Omega.{arith}
+use native.Mathlib.Nat.{mul-le-mul}
+use lib.ListN.{length}
+use lib.Seq.{sets, length-sets}
+use Rattle.promise.specs.Over.{over}
+use Rattle.routes.specs.Routes.{routeAt}
+use Rattle.routes.specs.declared.Route.{Route}
+use Rattle.breadth.specs.Node.{nodeSize}
+use Rattle.breadth.specs.Breadth.{levels, treeWords, treePorts}
+use Rattle.breadth.specs.Image.{imageNodes, imagePorts, routesOf}
+use Rattle.breadth.specs.Theorems.{Strided}
+use Rattle.stretch.specs.declared.Stretch.{Stretch}
+use Rattle.stretch.specs.Stretches.{stretchSlots, rootOf}
+use Rattle.stretch.specs.Count.{nodesCount}
+use Rattle.stretch.specs.Memory.{pending, Ready}
+use Rattle.stretch.proofs.Trees.{stretches-image}
+use Rattle.stretch.proofs.Readied.{sizes, ready, root-again, over-root}
+use Rattle.image_build.specs.Needs.{mostNodes, Roomy}
+
+-- the ports are few
+pub leaves-small : (count slots : ℕ) → count ≤ mostNodes → slots ≤ 16 → count * (slots - 1) ≤ mostNodes * 15
+leaves-small count slots a b = let l : slots - 1 ≤ 15 = omega arith in mul-le-mul a l
+
+module _ (w : ℕ) (list : List ℕ) (n s slots : ℕ) (nodes ports : List ℕ) (st : Strided w s) (r : Roomy w list n s slots nodes ports) where
+  abbrev R : ℕ → Route
+  R = routeAt list
+
+  abbrev count : ℕ
+  count = nodesCount w R n s
+
+  -- the nodes, breadth first, by the slots that the code counts
+  abbrev pub allIn : List Stretch
+  allIn = levels (stretchSlots w R s slots) (w / s) (rootOf n ∷ [])
+
+  ports-are : count * (slots - 1) + 1 ≡ count * (2 ^ s - 1) + 1
+  ports-are = ap (λ (k : ℕ). count * (k - 1) + 1) (r .are)
+
+  some-nodes : nodeSize ≤ length nodes
+  some-nodes = omega (arith, r .nodesFit)
+
+  module _ (rooted : List ℕ) (e : rooted ≡ sets nodes 0 (pending (rootOf n))) where
+    pub root-stored : rooted ≡ sets rooted 0 (pending (rootOf n))
+    root-stored = e ∙ root-again nodes n some-nodes ∙ ap (λ (l : List ℕ). sets l 0 (pending (rootOf n))) (sym e)
+
+    length-rooted : length rooted ≡ length nodes
+    length-rooted = ap length e ∙ length-sets nodes 0 (pending (rootOf n))
+
+    pub rooted-ready : Ready w list s n (stretchSlots w R s slots) allIn rooted ports
+    rooted-ready =
+        subst (λ (k : ℕ). Ready w list s n (stretchSlots w R s k) (levels (stretchSlots w R s k) (w / s) (rootOf n ∷ [])) rooted ports) (sym (r .are))
+        (ready w s list n st (r .valid) rooted ports (r .whole) (omega (arith, length-rooted, r .nodesFit)) (omega (arith, ports-are, r .portsFit))
+        (omega (arith, r .small, r .valid .few)) (omega (arith, ports-are, leaves-small count slots (r .small) (r .few))))
+
+    image-is : (treeWords (stretchSlots w R s slots) allIn ≡ imageNodes s (w / s) (routesOf w R n))
+        × (treePorts (stretchSlots w R s slots) allIn ≡ imagePorts s (w / s) (routesOf w R n))
+    image-is =
+        subst (λ (k : ℕ). (treeWords (stretchSlots w R s k) (levels (stretchSlots w R s k) (w / s) (rootOf n ∷ [])) ≡ imageNodes s (w / s) (routesOf w R n))
+        × (treePorts (stretchSlots w R s k) (levels (stretchSlots w R s k) (w / s) (rootOf n ∷ [])) ≡ imagePorts s (w / s) (routesOf w R n))) (sym (r .are))
+        (stretches-image w s R n (r .valid) st)
+
+    -- what is left
+    pub image-written : {nodes′ ports′ : List ℕ} → nodes′ ≡ over (treeWords (stretchSlots w R s slots) allIn) rooted
+        → ports′ ≡ over (treePorts (stretchSlots w R s slots) allIn) ports
+        → (nodes′ ≡ over (imageNodes s (w / s) (routesOf w R n)) nodes) × (ports′ ≡ over (imagePorts s (w / s) (routesOf w R n)) ports)
+    image-written a b = (
+      a ∙ ap₂ (λ (o l : List ℕ). over o l) (image-is .0) e
+          ∙ over-root (imageNodes s (w / s) (routesOf w R n)) nodes n (omega (arith, sizes w s list n st (r .valid) .1)) some-nodes,
+      b ∙ ap (λ (o : List ℕ). over o ports) (image-is .1),
+    )

@@ -1,0 +1,20 @@
+use mathlib.Core.Path.{refl, _∙_}
+use Prim.Native.Nat.{_^_}
+use native.Mathlib.Nat.{one-mul}
+use native.Mathlib.Omega.{arith}
+use lib.Pow.{pow-pos, pow-mono, shl-exact}
+use borrow.Author.Needs.{needs}
+use Rattle.image_build.proofs.slots_of.Statement.{statement}
+use Rattle.image_build.proofs.slots_of.Tie as tie
+
+shl-result : tie.Need-shl-result
+shl-result c = search needs
+
+returns : tie.Need-returns
+returns c =
+    let s = c .args .stride in
+    let e = shl-exact {a = 1} 1 s 32 (omega arith) (omega arith) ∙ one-mul (2 ^ s) in
+    rw e (refl, pow-pos s, pow-mono {i = s} {j = 4} (search needs))
+
+pub slots-of-spec : {M : Type 1} → statement M
+slots-of-spec = tie.close (tie.spec shl-result returns)

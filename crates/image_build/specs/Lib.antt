@@ -1,0 +1,4 @@
+-- What a build answers and leaves.
+pub mod Build
+pub mod Needs
+pub mod Theorems

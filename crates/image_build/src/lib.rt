@@ -1,0 +1,93 @@
+// Building the image of a route list into lent memory, which is all the memory that it uses.
+ghost use mathlib.Core.Path.{_≡_};
+ghost use Prim.Native.Nat.{_^_, _<_, _≤_};
+ghost use Rattle.breadth.specs.Lookup.{isStride};
+ghost use Rattle.image_build.specs.Build.{left, refusedBuild, doneBuild, buildImage};
+use count::count_nodes;
+use fill::write_image;
+use routes::check_list;
+use routes::refusal::NO_ROOM;
+use routes::refusal::WRONG_STRIDE;
+
+mod count;
+mod fill;
+mod search;
+
+// What a build answers: the refusal's number and place, both 0 where it is done, and the nodes and ports written.
+pub struct Built {
+    pub number: u32,
+    pub place: u32,
+    pub nodes: u32,
+    pub ports: u32,
+}
+
+impl Built {
+    fn refused(number: u32, place: u32) -> Self
+        ensures { λ r. ⌜ r ≡ refusedBuild number place ⌝ }
+    {
+        Self {
+            number,
+            place,
+            nodes: 0,
+            ports: 0,
+        }
+    }
+
+    fn done(nodes: u32, ports: u32) -> Self
+        ensures { λ r. ⌜ r ≡ doneBuild nodes ports ⌝ }
+    {
+        Self {
+            number: 0,
+            place: 0,
+            nodes,
+            ports,
+        }
+    }
+}
+
+// Whether a number is a stride: 1, 2 or 4.
+fn is_stride(stride: u32) -> bool
+    ensures { λ r. ⌜ r ≡ isStride stride ⌝ }
+{
+    if stride == 1 {
+        return true;
+    }
+    if stride == 2 {
+        return true;
+    }
+    stride == 4
+}
+
+// 2^stride, the slots of a node.
+fn slots_of(stride: u32) -> u32
+    requires { ⌜ stride ≤ 4 ⌝ }
+    ensures { λ r. ⌜ (r ≡ 2 ^ stride) × (0 < r) × (r ≤ 16) ⌝ }
+{
+    1u32 << stride
+}
+
+// The image of a list, written into the nodes and the ports lent. Refuses 12 at place 0, then as the check of the list does, then 9
+// at place 0 where the nodes or the ports do not fit. The nodes are counted first, so that a refusal writes nothing.
+pub fn build(stride: u32, list: &[u32], nodes: &mut [u32], ports: &mut [u16]) -> Built
+    ensures { λ r. ⌜ left r (now (nodes .exit)) (now (ports .exit)) ≡ buildImage 32 stride (now (list .entry)) (now (nodes .entry)) (now (ports .entry)) ⌝ }
+{
+    if is_stride(stride) {
+        let checked = check_list(list);
+        if checked.number != 0 {
+            return Built::refused(checked.number, checked.place);
+        }
+        let n = list.len() / 3;
+        let slots = slots_of(stride);
+        let count = count_nodes(list, n, stride);
+        let leaves = count * (slots as usize - 1) + 1;
+        if nodes.len() < count * 3 {
+            return Built::refused(NO_ROOM, 0);
+        }
+        if ports.len() < leaves {
+            return Built::refused(NO_ROOM, 0);
+        }
+        write_image(list, n, stride, slots, nodes, ports);
+        return Built::done(count as u32, leaves as u32);
+    }
+    Built::refused(WRONG_STRIDE, 0)
+}

@@ -1,0 +1,65 @@
+-- Defines the page that the program `runs` prints for a route file: rules, "Program `runs`". Assumes nothing.
+use mathlib.Core.Bool.{cond}
+use mathlib.Core.List.{List, [], _∷_, _++_}
+use Prim.Native.Nat.{ℕ, _+_, _*_}
+use lib.Dec.{eqb, leb}
+use lib.ListN.{length, getD}
+use Rattle.promise.specs.Over.{Outcome, outcome, over}
+use Rattle.routes.specs.Refusals.{noRoom, refused}
+use Rattle.routes.specs.declared.Answer.{Answer}
+use Rattle.file.specs.File.{fileRoute}
+use Rattle.file.specs.Check.{fileCheck}
+use Rattle.listing.specs.Runs.{Run, run}
+use Rattle.listing.specs.Listing.{listed}
+use Rattle.page.specs.Text.{newline, space, numeral, address}
+
+-- "first address, last address, port"
+abbrev pub lineOf : Run → List ℕ
+lineOf r = address (r .first) ++ space ++ address (r .last) ++ space ++ numeral (r .port) ++ newline
+
+abbrev pub linesOf : List Run → List ℕ
+linesOf [] = []
+linesOf (r ∷ rs) = lineOf r ++ linesOf rs
+
+-- "a header with the run count, then first address, last address, port": `runs N`, and a line for each run
+abbrev pub header : ℕ → List ℕ
+header n = (114 ∷ 117 ∷ 110 ∷ 115 ∷ 32 ∷ []) ++ numeral n ++ newline
+
+abbrev pub runsText : List Run → List ℕ
+runsText rs = header (length rs) ++ linesOf rs
+
+-- "`refused`, number, place"
+abbrev pub refusedText : Answer → List ℕ
+refusedText a =
+    (114 ∷ 101 ∷ 102 ∷ 117 ∷ 115 ∷ 101 ∷ 100 ∷ 32 ∷ []) ++ numeral (a .number) ++ space ++ numeral (a .place) ++ newline
+
+-- "Over 1,797 bytes, or over 256 routes"
+abbrev pub mostBytes : ℕ
+mostBytes = 1797
+
+abbrev pub mostRoutesShown : ℕ
+mostRoutesShown = 256
+
+-- the page of a file of w-bit addresses: too long; refused; too many routes; else the listing of its routes
+unfoldable pub pageText : ℕ → List ℕ → List ℕ
+pageText w file =
+    cond (leb (length file) mostBytes)
+    (cond (eqb (fileCheck w file .number) 0)
+    (cond (leb (fileCheck w file .count) mostRoutesShown)
+    (runsText (listed w (fileRoute w file) (fileCheck w file .count)))
+    (refusedText (refused noRoom 0)))
+    (refusedText (fileCheck w file)))
+    (refusedText (refused noRoom 0))
+
+-- bytes that hold any page: a header of 16, and 513 lines of 43, a word having ten digits at most and an address 15 bytes
+abbrev pub pageRoom : ℕ
+pageRoom = 16 + 513 * 43
+
+-- how many bytes the page has, over the front of the lent ones; where fewer than any page's are lent, none
+unfoldable pub pageOf : ℕ → List ℕ → List ℕ → Outcome ℕ
+pageOf w file out =
+    cond (leb pageRoom (length out)) (outcome (length (pageText w file)) (over (pageText w file) out)) (outcome 0 out)
+
+-- run i of a listing's words
+abbrev pub runAt : List ℕ → ℕ → Run
+runAt words i = run (getD words (i * 3) 0) (getD words (i * 3 + 1) 0) (getD words (i * 3 + 2) 0)

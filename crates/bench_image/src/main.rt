@@ -1,0 +1,343 @@
+// Bench examples 9, 10 and 11 of the rules, built from their routes and looked up; builds that are refused; and images damaged in each
+// way that a lookup refuses. A build's line is `claim`, number, place, nodes, ports; a lookup's is `claim`, number, port, nodes read.
+use image::Found;
+use image::lookup;
+use image_build::build;
+use libc::STDOUT_FILENO;
+
+// "Routes 01, 10, 000, 001, 111, 1100, 1101 with ports 1..7", in list order.
+fn seven() -> [u32; 21] {
+    [
+        0,
+        3,
+        3,
+        536870912,
+        3,
+        4,
+        1073741824,
+        2,
+        1,
+        2147483648,
+        2,
+        2,
+        3221225472,
+        4,
+        6,
+        3489660928,
+        4,
+        7,
+        3758096384,
+        3,
+        5,
+    ]
+}
+
+fn text(s: &[u8]) {
+    io::write_all(STDOUT_FILENO, s);
+}
+
+fn number(x: u32) {
+    text(b" ");
+    io::print_decimal(STDOUT_FILENO, x as u64);
+}
+
+// A word and a port of the memories lent; 99 past their ends, which no claim has.
+fn word(nodes: &[u32], at: usize) {
+    if at < nodes.len() {
+        number(nodes[at]);
+    } else {
+        number(99);
+    }
+}
+
+fn wide(x: u16) -> u32 {
+    x as u32
+}
+
+fn port(ports: &[u16], at: usize) {
+    if at < ports.len() {
+        number(wide(ports[at]));
+    } else {
+        number(99);
+    }
+}
+
+// One of the three words of the first three nodes, and of the next three.
+fn three(nodes: &[u32], from: usize) {
+    if from < 1000 {
+        word(nodes, from);
+        word(nodes, from + 3);
+        word(nodes, from + 6);
+    }
+}
+
+// Four ports from a number on.
+fn four(ports: &[u16], from: usize) {
+    if from < 1000 {
+        port(ports, from);
+        port(ports, from + 1);
+        port(ports, from + 2);
+        port(ports, from + 3);
+    }
+}
+
+fn found(claim: &[u8], x: Found) {
+    text(claim);
+    number(x.number);
+    number(x.port);
+    number(x.reads);
+    text(b"\n");
+}
+
+// A build of the seven routes into memory for so many nodes and ports as are lent.
+fn built(claim: &[u8], stride: u32, list: &[u32], nodes: &mut [u32], ports: &mut [u16]) {
+    let b = build(stride, list, nodes, ports);
+    text(claim);
+    number(b.number);
+    number(b.place);
+    number(b.nodes);
+    number(b.ports);
+    text(b"\n");
+}
+
+fn looked(claim: &[u8], stride: u32, address: u32) {
+    let mut nodes = [0u32; 18];
+    let mut ports = [0u16; 10];
+    build(stride, &seven(), &mut nodes, &mut ports);
+    found(claim, lookup(stride, &nodes, &ports, address));
+}
+
+// The bitmaps, offsets or leaf bases of three nodes, and of six.
+fn of_three(claim: &[u8], nodes: &[u32], from: usize) {
+    text(claim);
+    three(nodes, from);
+    text(b"\n");
+}
+
+fn of_six(claim: &[u8], nodes: &[u32], from: usize) {
+    if from < 3 {
+        text(claim);
+        three(nodes, from);
+        three(nodes, from + 9);
+        text(b"\n");
+    }
+}
+
+fn seven_ports(ports: &[u16]) {
+    text(b"example_9_ports");
+    four(ports, 0);
+    port(ports, 4);
+    port(ports, 5);
+    port(ports, 6);
+    text(b"\n");
+}
+
+fn spare_words(nodes: &[u32], ports: &[u16]) {
+    text(b"words_past_the_image_stay");
+    word(nodes, 18);
+    word(nodes, 19);
+    word(nodes, 20);
+    port(ports, 7);
+    text(b"\n");
+}
+
+// Example 9, in memory with words to spare.
+fn image_9(nodes: &mut [u32], ports: &mut [u16]) {
+    built(b"example_9_is_built", 1, &seven(), nodes, ports);
+    of_six(b"example_9_bitmaps", nodes, 0);
+    of_six(b"example_9_offsets", nodes, 1);
+    of_six(b"example_9_leaf_bases", nodes, 2);
+    seven_ports(ports);
+    spare_words(nodes, ports);
+}
+
+fn example_9() {
+    let mut nodes = [77u32; 21];
+    let mut ports = [77u16; 8];
+    image_9(&mut nodes, &mut ports);
+}
+
+fn addresses_9() {
+    looked(b"stride_1_address_0101", 1, 1342177280);
+    looked(b"stride_1_address_000", 1, 0);
+    looked(b"stride_1_address_001", 1, 536870912);
+    looked(b"stride_1_address_10", 1, 2147483648);
+    looked(b"stride_1_address_1100", 1, 3221225472);
+    looked(b"stride_1_address_1101", 1, 3489660928);
+    looked(b"stride_1_last_address", 1, 4294967295);
+}
+
+fn ten_ports(ports: &[u16]) {
+    text(b"example_10_ports");
+    four(ports, 0);
+    four(ports, 4);
+    port(ports, 8);
+    port(ports, 9);
+    text(b"\n");
+}
+
+fn image_10(nodes: &mut [u32], ports: &mut [u16]) {
+    built(b"example_10_is_built", 2, &seven(), nodes, ports);
+    of_three(b"example_10_bitmaps", nodes, 0);
+    of_three(b"example_10_offsets", nodes, 1);
+    of_three(b"example_10_leaf_bases", nodes, 2);
+    ten_ports(ports);
+}
+
+fn example_10() {
+    let mut nodes = [77u32; 9];
+    let mut ports = [77u16; 10];
+    image_10(&mut nodes, &mut ports);
+}
+
+fn addresses_10() {
+    looked(b"stride_2_address_0101", 2, 1342177280);
+    looked(b"stride_2_address_000", 2, 0);
+    looked(b"stride_2_address_001", 2, 536870912);
+    looked(b"stride_2_address_10", 2, 2147483648);
+    looked(b"stride_2_address_1101", 2, 3489660928);
+    looked(b"stride_2_last_address", 2, 4294967295);
+}
+
+fn one_node(nodes: &[u32]) {
+    text(b"example_11_node");
+    word(nodes, 0);
+    word(nodes, 1);
+    word(nodes, 2);
+    text(b"\n");
+}
+
+fn sixteen_ports(ports: &[u16]) {
+    text(b"example_11_ports");
+    four(ports, 0);
+    four(ports, 4);
+    four(ports, 8);
+    four(ports, 12);
+    text(b"\n");
+}
+
+fn image_11(nodes: &mut [u32], ports: &mut [u16]) {
+    let none = [0u32; 0];
+    built(b"example_11_is_built", 4, &none, nodes, ports);
+    one_node(nodes);
+    sixteen_ports(ports);
+    found(b"empty_image_address_0", lookup(4, nodes, ports, 0));
+    found(
+        b"empty_image_last_address",
+        lookup(4, nodes, ports, 4294967295),
+    );
+}
+
+fn example_11() {
+    let mut nodes = [77u32; 3];
+    let mut ports = [77u16; 16];
+    image_11(&mut nodes, &mut ports);
+}
+
+// A build that is refused writes nothing.
+fn refused(claim: &[u8], stride: u32, list: &[u32], nodes: &mut [u32], ports: &mut [u16]) {
+    built(claim, stride, list, nodes, ports);
+    text(b"nothing_is_written");
+    word(nodes, 0);
+    port(ports, 0);
+    text(b"\n");
+}
+
+// The seven routes, or another list, into memory for six nodes and seven ports.
+fn refused_list(claim: &[u8], stride: u32, list: &[u32]) {
+    let mut nodes = [77u32; 18];
+    let mut ports = [77u16; 7];
+    refused(claim, stride, list, &mut nodes, &mut ports);
+}
+
+fn refusals() {
+    refused_list(b"stride_3_is_refused_12", 3, &seven());
+    refused_list(b"stride_0_before_the_list_checks", 0, &[0, 0, 0, 0]);
+    refused_list(b"no_whole_routes_is_refused_3", 1, &[0, 0, 0, 0]);
+    refused_list(b"length_33_is_refused_4", 1, &[0, 33, 1]);
+    refused_list(b"spare_bits_are_refused_5", 1, &[1, 31, 1]);
+    refused_list(b"port_0_is_refused_6", 1, &[0, 0, 0]);
+    refused_list(b"the_second_route_is_refused_7", 1, &[0, 1, 1, 0, 1, 2]);
+}
+
+fn short_nodes(claim: &[u8], list: &[u32]) {
+    let mut nodes = [77u32; 17];
+    let mut ports = [77u16; 7];
+    refused(claim, 1, list, &mut nodes, &mut ports);
+}
+
+fn short_ports(claim: &[u8], list: &[u32]) {
+    let mut nodes = [77u32; 18];
+    let mut ports = [77u16; 6];
+    refused(claim, 1, list, &mut nodes, &mut ports);
+}
+
+fn no_room() {
+    short_nodes(b"list_checks_before_9", &[0, 1, 1, 0, 1, 2]);
+    short_nodes(b"a_node_too_few_is_refused_9", &seven());
+    short_ports(b"a_port_too_few_is_refused_9", &seven());
+}
+
+fn store_word(nodes: &mut [u32], at: usize, value: u32) {
+    if at < nodes.len() {
+        nodes[at] = value;
+    }
+}
+
+fn store_port(ports: &mut [u16], at: usize, value: u16) {
+    if at < ports.len() {
+        ports[at] = value;
+    }
+}
+
+// Example 9, looked up at 0101 with one word changed, or with the first port changed.
+fn word_damaged(claim: &[u8], at: usize, value: u32) {
+    let mut nodes = [0u32; 18];
+    let mut ports = [0u16; 7];
+    build(1, &seven(), &mut nodes, &mut ports);
+    store_word(&mut nodes, at, value);
+    found(claim, lookup(1, &nodes, &ports, 1342177280));
+}
+
+fn port_damaged(claim: &[u8], value: u16) {
+    let mut nodes = [0u32; 18];
+    let mut ports = [0u16; 7];
+    build(1, &seven(), &mut nodes, &mut ports);
+    store_port(&mut ports, 0, value);
+    found(claim, lookup(1, &nodes, &ports, 1342177280));
+}
+
+fn damages() {
+    word_damaged(b"nothing_damaged", 18, 0);
+    word_damaged(b"a_node_past_those_lent_is_refused_11", 1, 9);
+    word_damaged(b"a_bitmap_of_4_is_refused_11", 3, 4);
+    word_damaged(b"a_leaf_past_the_ports_is_refused_11", 5, 7);
+    port_damaged(b"port_4095_is_refused_11", 4095);
+    port_damaged(b"port_4094_is_answered", 4094);
+}
+
+// Node 1 made its own child, so that the walk goes on to the last depth.
+fn too_deep() {
+    found(b"no_nodes_are_refused_11", lookup(1, &[], &[], 0));
+    found(
+        b"a_non_leaf_at_depth_31_is_refused_11",
+        lookup(1, &[0, 0, 0], &[], 0),
+    );
+    found(
+        b"a_non_leaf_at_depth_28_is_refused_11",
+        lookup(4, &[0, 0, 0], &[], 0),
+    );
+    found(b"stride_3_is_refused_12", lookup(3, &[0, 0, 0], &[], 0));
+}
+
+fn main() {
+    example_9();
+    addresses_9();
+    example_10();
+    addresses_10();
+    example_11();
+    refusals();
+    no_room();
+    damages();
+    too_deep();
+}

@@ -2,14 +2,14 @@
 -- only: rules, "The run listing", "At most 2n+1 runs". Assumes nothing.
 use mathlib.Core.Path.{_≡_, refl, sym, ap, ap₂, _∙_}
 use mathlib.Core.Logic.{_⊎_, inl, inr, ⊎-elim}
-use mathlib.Core.Bool.{Bool, true, false, _||_, _&&_, false≢true}
-use mathlib.Core.List.{List, [], _∷_, map, List·Memᴰ}
+use mathlib.Core.Bool.{Bool, true, false, _||_, _&&_}
+use mathlib.Core.List.{List, [], _∷_}
 use Prim.Native.Nat.{ℕ, zero, suc, _+_, _-_, _*_, _≤_, _<_}
 use native.Mathlib.Omega.{arith}
 use lib.Dec.{eqb, leb, ltb}
 use lib.ListN.{length}
-use borrow.Author.Tests.{eq-eqb, ne-eqb, eqb-true, eqb-false, lt-ltb, le-ltb, le-leb, leb-true, leb-false, ltb-true, ltb-false}
-use Rattle.bits.specs.Prefix.{matches, first, last, within}
+use borrow.Author.Tests.{eq-eqb, ne-eqb, eqb-true, eqb-false, lt-ltb, le-ltb, leb-true, leb-false, ltb-true, ltb-false}
+use Rattle.bits.specs.Prefix.{matches, first, last}
 use Rattle.bits.proofs.Tests.{way, neither, leb-same}
 use Rattle.bits.proofs.Prefix.{matches-within}
 use Rattle.trie.specs.Scan.{plainScan}
@@ -19,7 +19,7 @@ use Rattle.routes.specs.declared.Route.{Route}
 use Rattle.routes.proofs.Numbered.{mem-list-of, map-list-of}
 use Rattle.routes.proofs.Held.{plain-scan-map}
 use Rattle.listing.specs.Runs.{Run, run, runsFrom}
-use Rattle.listing.specs.Boundaries.{insert, boundaries, ends, keep, runsBy}
+use Rattle.listing.specs.Boundaries.{insert, boundaries, ends, runsBy}
 use Rattle.listing.proofs.Runs.{runs-from-same, runs-from-other, runs-from-all, runs-from-to}
 
 -- x is one of the addresses

@@ -2,3 +2,4 @@
 pub mod Runs
 pub mod Boundaries
 pub mod Listing
+pub mod Same

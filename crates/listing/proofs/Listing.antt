@@ -2,7 +2,7 @@
 -- example 12. Assumes nothing.
 use mathlib.Core.Path.{_≡_, refl, sym, ap, _∙_}
 use mathlib.Core.List.{List, [], _∷_}
-use Prim.Native.Nat.{ℕ, _+_, _*_, _/_, _^_, _≤_}
+use Prim.Native.Nat.{ℕ, _*_, _/_, _^_, _≤_}
 use native.Mathlib.Omega.{arith}
 use native.Mathlib.Nat.{sub-zero}
 use lib.ListN.{length}
@@ -13,9 +13,8 @@ use Rattle.routes.specs.Routes.{routeAt, routeCount, listOf}
 use Rattle.routes.specs.Check.{listCheck}
 use Rattle.routes.proofs.Check.{accepted-sized}
 use Rattle.routes.specs.Scan.{scanOf}
-use Rattle.routes.specs.declared.Route.{Route}
-use Rattle.listing.specs.Runs.{Run, run, Lists, runs, runsFrom, runWords}
-use Rattle.listing.specs.Boundaries.{insert, boundaries, runsBy, boundaryRuns}
+use Rattle.listing.specs.Runs.{Run, Lists, runs, runsFrom, runWords}
+use Rattle.listing.specs.Boundaries.{insert, boundaries, runsBy}
 use Rattle.listing.specs.Listing.{listed, mostRuns, writeRuns, listRuns}
 use Rattle.listing.specs.Theorems.{ListedLists, ListedFew, NeverTooMany, ListedNone, ListedBoundaries, ListRunsDone, ListRunsShort, ListRunsRefused, Example12, twoHalves}
 use Rattle.listing.proofs.Runs.{listing-unique, listing-exists}

@@ -5,10 +5,10 @@ use mathlib.Core.List.{List, [], _∷_, _++_}
 use Prim.Native.Nat.{ℕ, suc, _+_, _-_, _*_, _≤_, _<_}
 use native.Mathlib.Omega.{arith}
 use native.Mathlib.Nat.{sub-zero}
-use lib.ListN.{length, take, drop, length-append, length-drop, take-append-drop}
+use lib.ListN.{length, take, drop, length-drop, take-append-drop}
 use lib.Seq.{drop-drop, take-add, length-take-le}
 use Rattle.promise.specs.Over.{over, put3}
-use Rattle.promise.proofs.Over.{over-put3, length-over}
+use Rattle.promise.proofs.Over.{over-put3}
 use Rattle.listing.specs.Runs.{Run, run, runsFrom, runs, runWords}
 use Rattle.listing.proofs.Runs.{runs-from-to, runs-from-same, runs-from-other, runs-from-all}
 use Rattle.listing.proofs.Listing.{length-run-words}

@@ -1,0 +1,139 @@
+-- The listing of a table is that of its saved list, and so of the routes that it holds: rules, "The run listing". Assumes nothing.
+use mathlib.Core.Path.{_≡_, refl, sym, ap, _∙_}
+use mathlib.Core.Logic.{_⊎_, inl, inr}
+use mathlib.Core.Bool.{true, false}
+use mathlib.Core.List.{List}
+use Prim.Native.Nat.{ℕ, _*_, _/_, _^_, _≤_, _<_}
+use native.Mathlib.Omega.{arith}
+use native.Mathlib.Nat.{min-le-left}
+use lib.ListN.{length, drop}
+use borrow.Author.Tests.{le-leb}
+use Rattle.promise.specs.Over.{Outcome, outcome, over}
+use Rattle.bits.specs.Bits.{bits}
+use Rattle.bits.proofs.Tests.{way}
+use Rattle.trie.specs.Scan.{scan}
+use Rattle.routes.specs.Refusals.{notInOrder, mostRoutes, refused, accepted}
+use Rattle.routes.specs.Routes.{route, routeAt, ValidList}
+use Rattle.routes.specs.Scan.{scanOf}
+use Rattle.routes.specs.declared.Answer.{Answer}
+use Rattle.cells.specs.Words.{rowCount}
+use Rattle.cells.specs.Words.{capacity as capacityOf}
+use Rattle.cells.specs.Rows.{Mem}
+use Rattle.cells.specs.Holds.{GoodOrder}
+use Rattle.cells.specs.Check.{isGood}
+use Rattle.cells.specs.Save.{saved, wordsOf, saveInto}
+use Rattle.cells.specs.Theorems.{SavedWell}
+use Rattle.order.proofs.Good.{check-is-good}
+use Rattle.order.proofs.Saved.{saved-is}
+use Rattle.order.proofs.Looked.{lookup-is-saved-scan}
+use Rattle.cells.proofs.Lookup.{lookup-is-scan}
+use Rattle.cells.specs.declared.Found.{Found}
+use Rattle.order.proofs.ListWords.{get-words-at}
+use Rattle.listing.specs.Runs.{Run}
+use Rattle.listing.specs.Listing.{listed, mostRuns, writeRuns}
+use Rattle.listing.proofs.Runs.{listing-unique}
+use Rattle.listing.proofs.Listing.{listed-lists, never-too-many}
+use Rattle.listing.proofs.Same.{listed-same, valid-same, lists-same}
+use Rattle.table_runs.specs.TableRuns.{tableRoutes, tableRuns}
+use Rattle.table_runs.specs.Theorems.{TableRunsDone, TableRunsRefused}
+
+-- "Capacity is the smaller of 4,096 and the number of whole rows lent."
+pub capacity-le : (words : List ℕ) → capacityOf words ≤ mostRoutes
+capacity-le words = min-le-left mostRoutes (rowCount words)
+
+pub table-runs-refused : TableRunsRefused
+unfolding tableRuns
+table-runs-refused w capacity M n lent wrong = rw wrong
+
+-- a table that the check accepts
+module _ (w capacity : ℕ) (M : Mem) (n : ℕ) (small : capacity ≤ mostRoutes) (fine : isGood w capacity M n ≡ true) where
+  good : GoodOrder w capacity M n
+  good = check-is-good w capacity M n .0 fine
+
+  few : n ≤ mostRoutes
+  few = omega (arith, good .1 .few)
+
+  well : SavedWell w (saved w M n) n (good .0)
+  well = saved-is w capacity M n (good .0) (good .1) few
+
+  save-done : (list : List ℕ) → length list ≡ mostRoutes * 3
+      → saveInto w capacity M n list ≡ outcome (accepted n) (over (wordsOf (saved w M n)) list)
+  unfolding saveInto
+  save-done list size = rw (fine, le-leb (n * 3) (length list) (omega (arith, few, size)))
+
+  routes-are : (list : List ℕ) (i : ℕ) → i < n → tableRoutes w M n i ≡ routeAt (over (wordsOf (saved w M n)) list) i
+  routes-are list i h =
+      sym (get-words-at (saved w M n) (drop (length (wordsOf (saved w M n))) list) i (route 0 0 0) (omega (arith, well .size)))
+
+-- what the saving of a table into room for 4,096 routes answers and leaves
+module _ (w capacity : ℕ) (M : Mem) (n : ℕ) (small : capacity ≤ mostRoutes) (list : List ℕ) (size : length list ≡ mostRoutes * 3)
+    {left : List ℕ} {a : Answer} (is : outcome a left ≡ saveInto w capacity M n list) where
+  answer-good : isGood w capacity M n ≡ true → outcome a left ≡ outcome (accepted n) (over (wordsOf (saved w M n)) list)
+  answer-good fine = is ∙ save-done w capacity M n small fine list size
+
+  answer-wrong : isGood w capacity M n ≡ false → a ≡ refused notInOrder 0
+  unfolding saveInto
+  answer-wrong wrong =
+      let e : saveInto w capacity M n list ≡ outcome (refused notInOrder 0) list = rw wrong in
+      ap (λ (o : Outcome Answer). o .answer) (is ∙ e)
+
+  pub saved-refused : (lent : List ℕ) → (a .number ≡ 0 → ⊥) → outcome a lent ≡ tableRuns w capacity M n lent
+  saved-refused lent n0 = go (way (isGood w capacity M n))
+    where
+      go : (isGood w capacity M n ≡ true) ⊎ (isGood w capacity M n ≡ false) → outcome a lent ≡ tableRuns w capacity M n lent
+      go (inl fine) = absurd (n0 (ap (λ (o : Outcome Answer). o .answer .number) (answer-good fine)))
+      go (inr wrong) =
+          ap (λ (x : Answer). outcome x lent) (answer-wrong wrong) ∙ sym (table-runs-refused w capacity M n lent wrong)
+
+  is-good : a .number ≡ 0 → isGood w capacity M n ≡ true
+  is-good z = go (way (isGood w capacity M n))
+    where
+      go : (isGood w capacity M n ≡ true) ⊎ (isGood w capacity M n ≡ false) → isGood w capacity M n ≡ true
+      go (inl fine) = fine
+      go (inr wrong) = absurd (omega (arith, z, ap (λ (x : Answer). x .number) (answer-wrong wrong)))
+
+  -- it was in good order, and its routes are in the list
+  module _ (z : a .number ≡ 0) where
+    count : a .count ≡ n
+    count = ap (λ (o : Outcome Answer). o .answer .count) (answer-good (is-good z))
+
+    same : (i : ℕ) → i < n → tableRoutes w M n i ≡ routeAt left i
+    same i h =
+        routes-are w capacity M n small (is-good z) list i h
+        ∙ ap (λ (ws : List ℕ). routeAt ws i) (sym (ap (λ (o : Outcome Answer). o .lent) (answer-good (is-good z))))
+
+    pub saved-valid : ValidList w (routeAt left) (a .count)
+    saved-valid = rw count (valid-same w (tableRoutes w M n) (routeAt left) n same (well w capacity M n small (is-good z) .list))
+
+    pub saved-listed : (lent : List ℕ) {o : Outcome Answer} → o ≡ writeRuns (listed w (routeAt left) (a .count)) lent
+        → o ≡ tableRuns w capacity M n lent
+    unfolding tableRuns
+    saved-listed lent e =
+        e ∙ ap (λ (k : ℕ). writeRuns (listed w (routeAt left) k) lent) count
+        ∙ ap (λ (rs : List Run). writeRuns rs lent) (sym (listed-same w (tableRoutes w M n) (routeAt left) n same))
+        ∙ sym (rw (is-good z) refl)
+
+pub table-runs-done : TableRunsDone
+unfolding tableRuns writeRuns
+table-runs-done w capacity M n S lent rs good small lists room =
+    rw (check-is-good w capacity M n .1 (S, good))
+    (ap (λ (qs : List Run). writeRuns qs lent) (sym is-listed)
+    ∙ rw (le-leb (length rs) mostRuns few-runs, le-leb (length rs) (length lent / 3) (omega (arith, room))) refl)
+  where
+    w-saved : SavedWell w (saved w M n) n S
+    w-saved = saved-is w capacity M n S good (omega (arith, good .few))
+
+    -- both are the port that the lookup answers
+    scan-is : (x : ℕ) → x < 2 ^ w → scan S (bits w x) ≡ scanOf w (tableRoutes w M n) n x
+    scan-is x h =
+        sym (ap (λ (f : Found). f .port) (lookup-is-scan w capacity M n x S good h))
+        ∙ lookup-is-saved-scan w capacity M n x (check-is-good w capacity M n .1 (S, good)) (omega (arith, good .few)) h .port
+
+    is-listed : rs ≡ listed w (tableRoutes w M n) n
+    is-listed =
+        listing-unique (scanOf w (tableRoutes w M n) n) (2 ^ w) rs (listed w (tableRoutes w M n) n)
+        (lists-same (λ x. scan S (bits w x)) (scanOf w (tableRoutes w M n) n) (2 ^ w) 0 rs scan-is lists)
+        (listed-lists w (tableRoutes w M n) n)
+
+    few-runs : length rs ≤ mostRuns
+    few-runs = rw is-listed (never-too-many w (tableRoutes w M n) n (w-saved .list))

@@ -1,0 +1,3 @@
+-- The run listing of a table.
+pub mod TableRuns
+pub mod Theorems

@@ -1,0 +1,23 @@
+-- Defines the run listing of a table: rules, "From a valid list, or a table in good order"; "list checks or 11, then 13, then 9".
+-- Assumes nothing.
+use mathlib.Core.Bool.{cond}
+use mathlib.Core.List.{List}
+use Prim.Native.Nat.{ℕ}
+use lib.ListN.{getD}
+use Rattle.promise.specs.Over.{Outcome, outcome}
+use Rattle.routes.specs.Refusals.{notInOrder, refused}
+use Rattle.routes.specs.Routes.{route}
+use Rattle.routes.specs.declared.Answer.{Answer}
+use Rattle.routes.specs.declared.Route.{Route}
+use Rattle.cells.specs.Rows.{Mem}
+use Rattle.cells.specs.Check.{isGood}
+use Rattle.cells.specs.Save.{saved}
+use Rattle.listing.specs.Listing.{listed, writeRuns}
+
+-- the routes of a table in list order
+abbrev pub tableRoutes : ℕ → Mem → ℕ → ℕ → Route
+tableRoutes w M n i = getD (saved w M n) i (route 0 0 0)
+
+unfoldable pub tableRuns : ℕ → ℕ → Mem → ℕ → List ℕ → Outcome Answer
+tableRuns w capacity M n lent =
+    cond (isGood w capacity M n) (writeRuns (listed w (tableRoutes w M n) n) lent) (outcome (refused notInOrder 0) lent)

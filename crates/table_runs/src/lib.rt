@@ -1,0 +1,22 @@
+// The run listing of a table: its routes are saved into a list, and that is listed.
+ghost use mathlib.Core.Path.{_≡_};
+ghost use Rattle.promise.specs.Over.{outcome};
+ghost use Rattle.cells.specs.Words.{capacity, rowAt};
+ghost use Rattle.table_runs.specs.TableRuns.{tableRuns};
+use routes::Answer;
+use save::save;
+use sweep::write_runs;
+
+// The run listing of a table of n rows: three words a run, first address, last address, port; and their number. Refuses 11
+// where the table is not in good order, then 13, more than 8,193 runs, then 9, no room for them, all at place 0.
+pub fn table_runs(rows: &[u32], n: u32, runs: &mut [u32]) -> Answer
+    ensures { λ r. ⌜ outcome r (now (runs .exit)) ≡ tableRuns 32 (capacity (now (rows .entry))) (rowAt (now (rows .entry))) n (now (runs .entry)) ⌝ }
+{
+    // Room for as many routes as a table can have: 4,096.
+    let mut list = [0u32; 12288];
+    let saved = save(rows, n, &mut list);
+    if saved.number != 0 {
+        return saved;
+    }
+    write_runs(&list, saved.count as usize, runs)
+}

@@ -1,0 +1,19 @@
+-- An answer of the library, laid out, is the reply for what the library promises. Assumes nothing.
+use mathlib.Core.Path.{_≡_, ap, _∙_}
+use mathlib.Core.List.{List}
+use Prim.Native.Nat.{ℕ}
+use Rattle.promise.specs.Over.{Outcome, outcome}
+use Rattle.routes.specs.declared.Answer.{Answer}
+use Rattle.image_build.specs.Build.{Left, left}
+use Rattle.image_build.specs.declared.Built.{Built}
+use Rattle.maftehon.specs.Reply.{Reply, counted, built, replied, imaged, repliedImage}
+
+pub replied-is :
+    (x : Answer) (words : List ℕ) (promised : Outcome Answer) (y : Reply) → outcome x words ≡ promised → y ≡ counted x
+    → outcome y words ≡ replied promised
+replied-is x words promised y p q = ap (λ z. outcome z words) q ∙ ap replied p
+
+pub replied-image-is :
+    (x : Built) (nodes ports : List ℕ) (promised : Left) (y : Reply) → left x nodes ports ≡ promised → y ≡ built x
+    → imaged y nodes ports ≡ repliedImage promised
+replied-image-is x nodes ports promised y p q = ap (λ z. imaged z nodes ports) q ∙ ap repliedImage p

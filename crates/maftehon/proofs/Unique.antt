@@ -1,0 +1,92 @@
+-- Any two outcomes that the promise of an export allows coincide: the number returned, the words of `answer`, and the memory lent to
+-- be written. Assumes nothing.
+use mathlib.Core.Path.{sym, _∙_}
+use denote.Ref.{now}
+use Rattle.promise.specs.Determined.{Determined}
+use Rattle.promise.specs.Over.{outcome}
+use Rattle.maftehon.specs.Reply.{reply, imaged}
+use Rattle.maftehon.proofs.files.mft_file_read.Kinds as file-read-kinds
+use Rattle.maftehon.proofs.files.mft_file_read.Reads as file-read-reads
+use Rattle.maftehon.proofs.files.mft_file_write.Kinds as file-write-kinds
+use Rattle.maftehon.proofs.files.mft_file_write.Reads as file-write-reads
+use Rattle.maftehon.proofs.lists.mft_list_check.Kinds as list-check-kinds
+use Rattle.maftehon.proofs.lists.mft_list_check.Reads as list-check-reads
+use Rattle.maftehon.proofs.lists.mft_list_scan.Kinds as list-scan-kinds
+use Rattle.maftehon.proofs.lists.mft_list_scan.Reads as list-scan-reads
+use Rattle.maftehon.proofs.lists.mft_list_runs.Kinds as list-runs-kinds
+use Rattle.maftehon.proofs.lists.mft_list_runs.Reads as list-runs-reads
+use Rattle.maftehon.proofs.tables.mft_table_check.Kinds as table-check-kinds
+use Rattle.maftehon.proofs.tables.mft_table_check.Reads as table-check-reads
+use Rattle.maftehon.proofs.tables.mft_table_lookup.Kinds as table-lookup-kinds
+use Rattle.maftehon.proofs.tables.mft_table_lookup.Reads as table-lookup-reads
+use Rattle.maftehon.proofs.tables.mft_table_announce.Kinds as table-announce-kinds
+use Rattle.maftehon.proofs.tables.mft_table_announce.Reads as table-announce-reads
+use Rattle.maftehon.proofs.tables.mft_table_withdraw.Kinds as table-withdraw-kinds
+use Rattle.maftehon.proofs.tables.mft_table_withdraw.Reads as table-withdraw-reads
+use Rattle.maftehon.proofs.tables.mft_table_build.Kinds as table-build-kinds
+use Rattle.maftehon.proofs.tables.mft_table_build.Reads as table-build-reads
+use Rattle.maftehon.proofs.tables.mft_table_save.Kinds as table-save-kinds
+use Rattle.maftehon.proofs.tables.mft_table_save.Reads as table-save-reads
+use Rattle.maftehon.proofs.tables.mft_table_runs.Kinds as table-runs-kinds
+use Rattle.maftehon.proofs.tables.mft_table_runs.Reads as table-runs-reads
+use Rattle.maftehon.proofs.images.mft_image_build.Kinds as image-build-kinds
+use Rattle.maftehon.proofs.images.mft_image_build.Reads as image-build-reads
+use Rattle.maftehon.proofs.images.mft_image_lookup.Kinds as image-lookup-kinds
+use Rattle.maftehon.proofs.images.mft_image_lookup.Reads as image-lookup-reads
+use Rattle.maftehon.proofs.images.mft_image_lookup_1.Kinds as image-lookup-1-kinds
+use Rattle.maftehon.proofs.images.mft_image_lookup_1.Reads as image-lookup-1-reads
+use Rattle.maftehon.proofs.images.mft_image_lookup_2.Kinds as image-lookup-2-kinds
+use Rattle.maftehon.proofs.images.mft_image_lookup_2.Reads as image-lookup-2-reads
+use Rattle.maftehon.proofs.images.mft_image_lookup_4.Kinds as image-lookup-4-kinds
+use Rattle.maftehon.proofs.images.mft_image_lookup_4.Reads as image-lookup-4-reads
+
+file-read-unique : Determined 3 file-read-kinds.ps file-read-kinds.r file-read-reads.Post (λ κs x s. outcome (reply x (now (s .1 .1 .0))) (now (s .1 .0)))
+file-read-unique κs a x y s t p q = p ∙ sym q
+
+file-write-unique : Determined 3 file-write-kinds.ps file-write-kinds.r file-write-reads.Post (λ κs x s. outcome (reply x (now (s .1 .1 .0))) (now (s .1 .0)))
+file-write-unique κs a x y s t p q = p ∙ sym q
+
+list-check-unique : Determined 2 list-check-kinds.ps list-check-kinds.r list-check-reads.Post (λ κs x s. reply x (now (s .1 .0)))
+list-check-unique κs a x y s t p q = p ∙ sym q
+
+list-scan-unique : Determined 2 list-scan-kinds.ps list-scan-kinds.r list-scan-reads.Post (λ κs x s. reply x (now (s .1 .1 .0)))
+list-scan-unique κs a x y s t p q = p ∙ sym q
+
+list-runs-unique : Determined 3 list-runs-kinds.ps list-runs-kinds.r list-runs-reads.Post (λ κs x s. outcome (reply x (now (s .1 .1 .0))) (now (s .1 .0)))
+list-runs-unique κs a x y s t p q = p ∙ sym q
+
+table-check-unique : Determined 2 table-check-kinds.ps table-check-kinds.r table-check-reads.Post (λ κs x s. reply x (now (s .1 .1 .0)))
+table-check-unique κs a x y s t p q = p ∙ sym q
+
+table-lookup-unique : Determined 2 table-lookup-kinds.ps table-lookup-kinds.r table-lookup-reads.Post (λ κs x s. reply x (now (s .1 .1 .1 .0)))
+table-lookup-unique κs a x y s t p q = p ∙ sym q
+
+table-announce-unique : Determined 2 table-announce-kinds.ps table-announce-kinds.r table-announce-reads.Post (λ κs x s. outcome (reply x (now (s .1 .1 .1 .1 .1 .0))) (now (s .0)))
+table-announce-unique κs a x y s t p q = p ∙ sym q
+
+table-withdraw-unique : Determined 2 table-withdraw-kinds.ps table-withdraw-kinds.r table-withdraw-reads.Post (λ κs x s. outcome (reply x (now (s .1 .1 .1 .1 .0))) (now (s .0)))
+table-withdraw-unique κs a x y s t p q = p ∙ sym q
+
+table-build-unique : Determined 3 table-build-kinds.ps table-build-kinds.r table-build-reads.Post (λ κs x s. outcome (reply x (now (s .1 .1 .0))) (now (s .1 .0)))
+table-build-unique κs a x y s t p q = p ∙ sym q
+
+table-save-unique : Determined 3 table-save-kinds.ps table-save-kinds.r table-save-reads.Post (λ κs x s. outcome (reply x (now (s .1 .1 .1 .0))) (now (s .1 .1 .0)))
+table-save-unique κs a x y s t p q = p ∙ sym q
+
+table-runs-unique : Determined 3 table-runs-kinds.ps table-runs-kinds.r table-runs-reads.Post (λ κs x s. outcome (reply x (now (s .1 .1 .1 .0))) (now (s .1 .1 .0)))
+table-runs-unique κs a x y s t p q = p ∙ sym q
+
+image-build-unique : Determined 4 image-build-kinds.ps image-build-kinds.r image-build-reads.Post (λ κs x s. imaged (reply x (now (s .1 .1 .1 .1 .0))) (now (s .1 .1 .0)) (now (s .1 .1 .1 .0)))
+image-build-unique κs a x y s t p q = p ∙ sym q
+
+image-lookup-unique : Determined 3 image-lookup-kinds.ps image-lookup-kinds.r image-lookup-reads.Post (λ κs x s. reply x (now (s .1 .1 .1 .1 .0)))
+image-lookup-unique κs a x y s t p q = p ∙ sym q
+
+image-lookup-1-unique : Determined 3 image-lookup-1-kinds.ps image-lookup-1-kinds.r image-lookup-1-reads.Post (λ κs x s. reply x (now (s .1 .1 .1 .0)))
+image-lookup-1-unique κs a x y s t p q = p ∙ sym q
+
+image-lookup-2-unique : Determined 3 image-lookup-2-kinds.ps image-lookup-2-kinds.r image-lookup-2-reads.Post (λ κs x s. reply x (now (s .1 .1 .1 .0)))
+image-lookup-2-unique κs a x y s t p q = p ∙ sym q
+
+image-lookup-4-unique : Determined 3 image-lookup-4-kinds.ps image-lookup-4-kinds.r image-lookup-4-reads.Post (λ κs x s. reply x (now (s .1 .1 .1 .0)))
+image-lookup-4-unique κs a x y s t p q = p ∙ sym q

@@ -1,0 +1,17 @@
+use mathlib.Core.Path.{ap, _∙_}
+use Rattle.maftehon.specs.Reply.{looked}
+use borrow.Author.Needs.{needs}
+use Rattle.maftehon.proofs.images.mft_image_lookup_2.Statement.{statement}
+use Rattle.maftehon.proofs.images.mft_image_lookup_2.Tie as tie
+
+lookup-2-requires : tie.Need-lookup-2-requires
+lookup-2-requires c κs = search needs
+
+looked-requires : tie.Need-looked-requires
+looked-requires c κs = search needs
+
+returns : tie.Need-returns
+returns c = c .looked .ensures ∙ ap (λ x. looked (x .number) (x .port) (x .reads)) (c .before .before .lookup-2 .ensures)
+
+pub mft-image-lookup-2-spec : {M : Type 1} → statement M
+mft-image-lookup-2-spec = tie.close (tie.spec lookup-2-requires looked-requires returns)

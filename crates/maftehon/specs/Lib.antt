@@ -1,0 +1,2 @@
+-- What C gets.
+pub mod Reply

@@ -1,0 +1,56 @@
+-- Defines what C gets for an answer of the library: rules, "A refusal returns its number and a place, all other results 0 (n as it
+-- was; for a lookup the rows or nodes read so far)". The number is returned; the place and the results are stored. Assumes nothing.
+use mathlib.Core.List.{List, [], _∷_}
+use Prim.Native.Nat.{ℕ}
+use Rattle.promise.specs.Over.{Outcome, outcome}
+use Rattle.routes.specs.declared.Answer.{Answer}
+use Rattle.cells.specs.declared.Found.{Found}
+use Rattle.breadth.specs.Lookup.{Looked}
+use Rattle.image_build.specs.Build.{Left}
+use Rattle.image_build.specs.declared.Built.{Built}
+
+-- the number returned, and the words stored in `answer`
+pub record Reply : Type 0 where
+  pub number : ℕ
+  pub answer : List ℕ
+
+abbrev pub reply : ℕ → List ℕ → Reply
+reply number answer = record { number = number; answer = answer }
+
+-- the place alone
+abbrev pub placed : Answer → Reply
+placed x = reply (x .number) (x .place ∷ [])
+
+-- the place, and the one result: routes, bytes, a port, n or runs
+abbrev pub counted : Answer → Reply
+counted x = reply (x .number) (x .place ∷ x .count ∷ [])
+
+-- place 0, the port, and the rows or nodes read
+abbrev pub looked : ℕ → ℕ → ℕ → Reply
+looked number port reads = reply number (0 ∷ port ∷ reads ∷ [])
+
+abbrev pub foundRow : Found → Reply
+foundRow x = looked (x .number) (x .port) (x .reads)
+
+abbrev pub foundNode : Looked → Reply
+foundNode x = looked (x .number) (x .port) (x .reads)
+
+-- the place, and the nodes and ports written
+abbrev pub built : Built → Reply
+built x = reply (x .number) (x .place ∷ x .nodes ∷ x .ports ∷ [])
+
+-- a call that writes one lent memory leaves it as the library does
+abbrev pub replied : Outcome Answer → Outcome Reply
+replied x = outcome (counted (x .answer)) (x .lent)
+
+-- what the build of an image leaves: its reply and the two memories
+pub record Imaged : Type 0 where
+  pub reply : Reply
+  pub nodes : List ℕ
+  pub ports : List ℕ
+
+abbrev pub imaged : Reply → List ℕ → List ℕ → Imaged
+imaged x nodes ports = record { reply = x; nodes = nodes; ports = ports }
+
+abbrev pub repliedImage : Left → Imaged
+repliedImage x = imaged (built (x .built)) (x .nodes) (x .ports)

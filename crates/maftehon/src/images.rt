@@ -1,0 +1,73 @@
+// The image: its build, its lookup, and the lookups with the stride a constant, which the header of additions declares.
+ghost use mathlib.Core.Path.{_≡_};
+ghost use Rattle.breadth.specs.Lookup.{lookupWords};
+ghost use Rattle.image_build.specs.Build.{buildImage};
+ghost use Rattle.maftehon.specs.Reply.{reply, foundNode, imaged, repliedImage};
+use crate::replies::built;
+use crate::replies::looked;
+
+#[no_mangle]
+pub extern "C" fn mft_image_build(
+    stride: u32,
+    list: &[u32],
+    nodes: &mut [u32],
+    ports: &mut [u16],
+    answer: &mut [u32; 3],
+) -> u32
+    ensures { λ r. ⌜ imaged (reply r (now (answer .exit))) (now (nodes .exit)) (now (ports .exit)) ≡ repliedImage (buildImage 32 stride (now (list .entry)) (now (nodes .entry)) (now (ports .entry))) ⌝ }
+{
+    built(image_build::build(stride, list, nodes, ports), answer)
+}
+
+#[no_mangle]
+pub extern "C" fn mft_image_lookup(
+    stride: u32,
+    nodes: &[u32],
+    ports: &[u16],
+    address: u32,
+    answer: &mut [u32; 3],
+) -> u32
+    ensures { λ r. ⌜ reply r (now (answer .exit)) ≡ foundNode (lookupWords 32 stride (now (nodes .entry)) (now (ports .entry)) address) ⌝ }
+{
+    let found = image::lookup(stride, nodes, ports, address);
+    looked(found.number, found.port, found.reads, answer)
+}
+
+#[no_mangle]
+pub extern "C" fn mft_image_lookup_1(
+    nodes: &[u32],
+    ports: &[u16],
+    address: u32,
+    answer: &mut [u32; 3],
+) -> u32
+    ensures { λ r. ⌜ reply r (now (answer .exit)) ≡ foundNode (lookupWords 32 1 (now (nodes .entry)) (now (ports .entry)) address) ⌝ }
+{
+    let found = image::lookup_1(nodes, ports, address);
+    looked(found.number, found.port, found.reads, answer)
+}
+
+#[no_mangle]
+pub extern "C" fn mft_image_lookup_2(
+    nodes: &[u32],
+    ports: &[u16],
+    address: u32,
+    answer: &mut [u32; 3],
+) -> u32
+    ensures { λ r. ⌜ reply r (now (answer .exit)) ≡ foundNode (lookupWords 32 2 (now (nodes .entry)) (now (ports .entry)) address) ⌝ }
+{
+    let found = image::lookup_2(nodes, ports, address);
+    looked(found.number, found.port, found.reads, answer)
+}
+
+#[no_mangle]
+pub extern "C" fn mft_image_lookup_4(
+    nodes: &[u32],
+    ports: &[u16],
+    address: u32,
+    answer: &mut [u32; 3],
+) -> u32
+    ensures { λ r. ⌜ reply r (now (answer .exit)) ≡ foundNode (lookupWords 32 4 (now (nodes .entry)) (now (ports .entry)) address) ⌝ }
+{
+    let found = image::lookup_4(nodes, ports, address);
+    looked(found.number, found.port, found.reads, answer)
+}

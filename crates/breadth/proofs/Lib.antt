@@ -11,4 +11,3 @@ pub mod Descent
 pub mod Image
 pub mod Alike
 pub mod Listed
-pub mod Examples

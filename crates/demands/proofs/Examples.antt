@@ -1,0 +1,179 @@
+-- The starred bench examples hold. The withdrawal goes a step at a time, so that each computes with rows that are written out. Assumes
+-- nothing.
+use mathlib.Core.Path.{_≡_, refl, ap, _∙_}
+use mathlib.Core.Bool.{true, false, _&&_}
+use mathlib.Core.List.{List, [], _∷_}
+use Prim.Native.Nat.{ℕ, _/_}
+use lib.Dec.{leb}
+use lib.Count.{ones, onesIn}
+use lib.ListN.{length, replicate}
+use Rattle.promise.specs.Over.{outcome, over}
+use Rattle.bits.specs.Bits.{Bits, bits}
+use Rattle.trie.specs.Scan.{longest, plainScan}
+use Rattle.trie.specs.Routes.{Route as BitRoute}
+use Rattle.routes.specs.Refusals.{accepted}
+use Rattle.routes.specs.Routes.{route, listOf}
+use Rattle.routes.specs.Check.{faultAt, firstFault, routesCheck, listCheck}
+use Rattle.routes.specs.declared.Route.{Route}
+use Rattle.cells.specs.Words.{rowAt, storeRow}
+use Rattle.cells.specs.Announce.{heldAt}
+use Rattle.cells.specs.Check.{seen, noRows, seenAt, isGood}
+use Rattle.demands.proofs.Steps.{seen-row, best-none, best-own, best-below, cut-on, cut-last, relink-on, relink-here}
+use Rattle.cells.specs.Withdraw.{noRoute, cut, relink, closeGap, withdrawn}
+use Rattle.cells.specs.Lookup.{walk, lookupIn}
+use Rattle.update.specs.Calls.{withdrawIn, withdrawInto}
+use Rattle.breadth.specs.Image.{someLonger, imagePaths, imageNodes, imagePorts}
+use Rattle.breadth.specs.Lookup.{isStride, lookupWords}
+use Rattle.breadth.specs.Lookup as breadth
+use Rattle.image_build.specs.Build.{left, doneBuild, listed, buildImage}
+use Rattle.listing.specs.Runs.{runWords}
+use Rattle.listing.proofs.Listing.{example-12}
+use Rattle.demands.specs.Examples.{address, row, tableI, seven, afterwards, imageWords, foundIn, StarredHold}
+
+-- the route that a row of the rules' table holds
+abbrev held : ℕ → ℕ → ℕ → Route
+held bits len port = route (address bits len) len port
+
+-- Table I is in good order: what the check has seen, row by row from below
+good : isGood 32 10 (rowAt tableI) 10 ≡ true
+unfolding isGood
+good =
+    let M = rowAt tableI in
+    let row9 : seenAt 32 M 10 28 (address 15 4) 9 ≡ seen 1 (address 15 4) 4 = seen-row 32 M 10 27 (address 15 4) 9 noRows noRows refl refl refl in
+    let row8 : seenAt 32 M 10 29 (address 7 3) 8 ≡ seen 2 (address 14 4) 4 = seen-row 32 M 10 28 (address 7 3) 8 noRows (seen 1 (address 15 4) 4) refl refl row9 in
+    let row5 : seenAt 32 M 10 30 (address 3 2) 5 ≡ seen 3 (address 14 4) 4 = seen-row 32 M 10 29 (address 3 2) 5 noRows (seen 2 (address 14 4) 4) refl refl row8 in
+    let row6 : seenAt 32 M 10 29 (address 4 3) 6 ≡ seen 1 (address 8 4) 4 = seen-row 32 M 10 28 (address 4 3) 6 noRows noRows refl refl refl in
+    let row7 : seenAt 32 M 10 29 (address 5 3) 7 ≡ seen 1 (address 5 3) 3 = seen-row 32 M 10 28 (address 5 3) 7 noRows noRows refl refl refl in
+    let row4 : seenAt 32 M 10 30 (address 2 2) 4 ≡ seen 3 (address 19 5) 5 = seen-row 32 M 10 29 (address 2 2) 4 (seen 1 (address 8 4) 4) (seen 1 (address 5 3) 3) refl row6 row7 in
+    let row2 : seenAt 32 M 10 31 (address 1 1) 2 ≡ seen 7 (address 18 5) 5 = seen-row 32 M 10 30 (address 1 1) 2 (seen 3 (address 19 5) 5) (seen 3 (address 14 4) 4) refl row4 row5 in
+    let row3 : seenAt 32 M 10 30 (address 1 2) 3 ≡ seen 1 (address 1 2) 2 = seen-row 32 M 10 29 (address 1 2) 3 noRows noRows refl refl refl in
+    let row1 : seenAt 32 M 10 31 (address 0 1) 1 ≡ seen 2 (address 0 2) 2 = seen-row 32 M 10 30 (address 0 1) 1 noRows (seen 1 (address 1 2) 2) refl refl row3 in
+    let row0 : seenAt 32 M 10 32 0 0 ≡ seen 10 (address 38 6) 6 = seen-row 32 M 10 31 0 0 (seen 2 (address 0 2) 2) (seen 7 (address 18 5) 5) refl row1 row2 in
+    rw row0
+
+-- Table I with other rows 0, 2, 4, 6, 8 and 9
+abbrev Fill : Type 0
+Fill = List ℕ → List ℕ
+
+abbrev tableWith : Fill → Fill → Fill → Fill → Fill → Fill → List ℕ
+tableWith r0 r2 r4 r6 r8 r9 =
+    r0 (row 0 2 2 0 3 (r2 (row 1 2 4 0 0 (r4 (row 3 2 6 0 8 (r6 (row 5 3 8 0 0 (r8 (r9 [])))))))))
+
+-- 10010 goes up to row 0
+abbrev first : List ℕ
+first = tableWith (row 18 5 3 1 2) (row 18 5 3 4 5) (row 19 5 5 6 7) (row 8 4 7 0 0) (row 14 4 9 0 9) (row 15 4 10 0 0)
+
+-- 10011 to row 2, since 11 is ordinary and hides 1110, which is shorter
+abbrev second : List ℕ
+second = tableWith (row 18 5 3 1 2) (row 19 5 5 4 5) (row 19 5 5 6 7) (row 8 4 7 0 0) (row 14 4 9 0 9) (row 15 4 10 0 0)
+
+-- 1000 to row 4, and row 6 falls away
+abbrev third : List ℕ
+third = tableWith (row 18 5 3 1 2) (row 19 5 5 4 5) (row 8 4 7 0 7) (row 8 4 7 0 0) (row 14 4 9 0 9) (row 15 4 10 0 0)
+
+-- row 8's right child is 6, to which 1111 moves
+abbrev fourth : List ℕ
+fourth = tableWith (row 18 5 3 1 2) (row 19 5 5 4 5) (row 8 4 7 0 7) (row 8 4 7 0 0) (row 14 4 9 0 6) (row 15 4 10 0 0)
+
+abbrev fifth : List ℕ
+fifth = tableWith (row 18 5 3 1 2) (row 19 5 5 4 5) (row 8 4 7 0 7) (row 15 4 10 0 0) (row 14 4 9 0 6) (row 0 0 0 0 0)
+
+cut-is : cut rowAt storeRow 32 32 tableI 0 (held 38 6 0) ≡ record { rows = third; freed = 6 }
+cut-is =
+    let M = rowAt tableI in
+    let F = rowAt first in
+    let S = rowAt second in
+    cut-on 31 0 tableI (held 38 6 0) (held 0 2 2) (held 18 5 3) (held 18 5 3) refl (best-own 32 M 30 1 refl refl) (best-own 32 M 30 2 refl refl) refl 2 refl
+    first refl refl
+    ∙ cut-on 30 2 first (held 18 5 3) (held 19 5 5) (held 14 4 9) (held 19 5 5) refl (best-own 32 F 29 4 refl refl)
+    (best-below 32 F 29 5 noRoute (held 14 4 9) refl refl (best-none 32 F 29 0 refl) (best-own 32 F 28 8 refl refl)) refl 4 refl second refl refl
+    ∙ cut-last 29 4 second (held 19 5 5) (held 8 4 7) (held 5 3 8) (held 8 4 7) refl (best-own 32 S 28 6 refl refl)
+    (best-below 32 S 28 7 noRoute noRoute refl refl (best-none 32 S 28 0 refl) (best-none 32 S 28 0 refl)) refl 6 refl third refl refl
+
+relink-is : relink rowAt storeRow 32 32 third 0 (address 15 4) 9 6 ≡ fourth
+relink-is =
+    relink-on 31 0 third (address 15 4) 9 6 2 refl refl
+    ∙ relink-on 30 2 third (address 15 4) 9 6 5 refl refl
+    ∙ relink-on 29 5 third (address 15 4) 9 6 8 refl refl
+    ∙ relink-here 28 8 third (address 15 4) 9 6 9 refl fourth refl refl
+
+withdrawn-is : withdrawn rowAt storeRow 32 tableI 10 (held 38 6 0) ≡ fifth
+unfolding withdrawn closeGap
+withdrawn-is = rw (cut-is, relink-is)
+
+withdrawal-is : withdrawInto 32 tableI 10 (address 38 6) 6 ≡ outcome (accepted 9) fifth
+unfolding withdrawInto withdrawIn heldAt
+withdrawal-is = rw (good, withdrawn-is)
+
+-- the seven routes, by their bits
+abbrev bitRoute : Bits → ℕ → BitRoute
+bitRoute bits port = record { prefix = bits; port = port }
+
+abbrev sevenBits : List BitRoute
+sevenBits =
+    bitRoute (false ∷ false ∷ false ∷ []) 3 ∷ bitRoute (false ∷ false ∷ true ∷ []) 4 ∷ bitRoute (false ∷ true ∷ []) 1
+    ∷ bitRoute (true ∷ false ∷ []) 2 ∷ bitRoute (true ∷ true ∷ false ∷ false ∷ []) 6 ∷ bitRoute (true ∷ true ∷ false ∷ true ∷ []) 7
+    ∷ bitRoute (true ∷ true ∷ true ∷ []) 5 ∷ []
+
+seven-listed : listed 32 seven ≡ sevenBits
+unfolding listOf bits
+seven-listed = refl
+
+seven-fine : listCheck 32 seven ≡ accepted 0
+unfolding listCheck routesCheck firstFault faultAt
+seven-fine = refl
+
+-- an image that has exactly the room it needs
+module _ (s : ℕ) (list nodes ports : List ℕ) (rs : List BitRoute) (is : listed 32 list ≡ rs) (fine : listCheck 32 list ≡ accepted 0)
+    (stride : isStride s ≡ true) (nodesAre : imageNodes s (32 / s) rs ≡ nodes) (portsAre : imagePorts s (32 / s) rs ≡ ports) where
+  image-is : (lentNodes lentPorts : List ℕ) → (leb (length nodes) (length lentNodes) && leb (length ports) (length lentPorts)) ≡ true
+      → buildImage 32 s list lentNodes lentPorts
+      ≡ left (doneBuild (length (imagePaths s (32 / s) rs)) (length ports)) (over nodes lentNodes) (over ports lentPorts)
+  unfolding buildImage
+  image-is lentNodes lentPorts room = rw (stride, fine, is, nodesAre, portsAre, room)
+
+nine : buildImage 32 1 seven (replicate 18 0) (replicate 7 0)
+    ≡ left (doneBuild 6 7) (0 ∷ 1 ∷ 0 ∷ 1 ∷ 2 ∷ 0 ∷ 2 ∷ 2 ∷ 1 ∷ 3 ∷ 0 ∷ 2 ∷ 1 ∷ 1 ∷ 4 ∷ 3 ∷ 0 ∷ 5 ∷ []) (1 ∷ 2 ∷ 3 ∷ 4 ∷ 5 ∷ 6 ∷ 7 ∷ [])
+unfolding someLonger listOf bits longest plainScan
+nine =
+    image-is 1 seven (0 ∷ 1 ∷ 0 ∷ 1 ∷ 2 ∷ 0 ∷ 2 ∷ 2 ∷ 1 ∷ 3 ∷ 0 ∷ 2 ∷ 1 ∷ 1 ∷ 4 ∷ 3 ∷ 0 ∷ 5 ∷ []) (1 ∷ 2 ∷ 3 ∷ 4 ∷ 5 ∷ 6 ∷ 7 ∷ []) sevenBits seven-listed
+    seven-fine refl refl refl (replicate 18 0) (replicate 7 0) refl
+
+ten : buildImage 32 2 seven (replicate 9 0) (replicate 10 0)
+    ≡ left (doneBuild 3 10) (6 ∷ 1 ∷ 0 ∷ 15 ∷ 0 ∷ 2 ∷ 15 ∷ 0 ∷ 6 ∷ []) (1 ∷ 2 ∷ 3 ∷ 3 ∷ 4 ∷ 4 ∷ 6 ∷ 7 ∷ 5 ∷ 5 ∷ [])
+unfolding someLonger listOf bits longest plainScan
+ten =
+    image-is 2 seven (6 ∷ 1 ∷ 0 ∷ 15 ∷ 0 ∷ 2 ∷ 15 ∷ 0 ∷ 6 ∷ []) (1 ∷ 2 ∷ 3 ∷ 3 ∷ 4 ∷ 4 ∷ 6 ∷ 7 ∷ 5 ∷ 5 ∷ []) sevenBits seven-listed seven-fine refl refl refl
+    (replicate 9 0) (replicate 10 0) refl
+
+pub eleven : buildImage 32 4 [] (replicate 3 0) (replicate 16 0) ≡ left (doneBuild 1 16) (65535 ∷ 0 ∷ 0 ∷ []) (replicate 16 0)
+unfolding someLonger listOf bits longest plainScan listCheck routesCheck firstFault
+eleven = image-is 4 [] (65535 ∷ 0 ∷ 0 ∷ []) (replicate 16 0) [] refl refl refl refl refl (replicate 3 0) (replicate 16 0) refl
+
+pub starred-hold : StarredHold
+unfolding walk lookupIn breadth.walk lookupWords ones onesIn
+starred-hold =
+    let eight = ap afterwards withdrawal-is in
+    let nine-found = ap (foundIn 1 (address 5 4)) nine in
+    let twelve = ap runWords example-12 in (
+      refl,
+      (
+        refl,
+        (
+          refl,
+          (
+            refl,
+            (
+              refl,
+              (
+                refl,
+                (
+                  refl,
+                  (eight, (ap imageWords nine, (nine-found, (ap imageWords ten, (ap imageWords eleven, (twelve, tt)))))),
+                ),
+              ),
+            ),
+          ),
+        ),
+      ),
+    )

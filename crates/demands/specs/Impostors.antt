@@ -1,0 +1,124 @@
+-- States that no function which meets its promise is one of the five impostors: rules, "Five impostors are to be tried". Assumes
+-- nothing.
+use mathlib.Core.Path.{_≡_}
+use mathlib.Core.List.{List, [], _∷_, _++_}
+use Prim.Native.Nat.{ℕ, _+_, _/_, _^_, _<_}
+use Rattle.promise.specs.Over.{Outcome}
+use Rattle.bits.specs.Bits.{bits}
+use Rattle.trie.specs.Routes.{Routes}
+use Rattle.trie.specs.Trie.{reads}
+use Rattle.routes.specs.Routes.{route}
+use Rattle.routes.specs.Check.{listCheck}
+use Rattle.routes.specs.Scan.{listScan}
+use Rattle.routes.specs.Theorems.{Words}
+use Rattle.routes.specs.declared.Answer.{Answer}
+use Rattle.file.specs.Calls.{readFile, writeFile}
+use Rattle.cells.specs.Words.{capacity, rowAt}
+use Rattle.cells.specs.Holds.{GoodFor}
+use Rattle.cells.specs.Lookup.{lookupIn}
+use Rattle.cells.specs.Save.{saveInto}
+use Rattle.cells.specs.declared.Found.{Found}
+use Rattle.table.specs.Good.{tableCheck}
+use Rattle.update.specs.Calls.{announceInto, withdrawInto, buildInto}
+use Rattle.breadth.specs.Image.{passed}
+use Rattle.breadth.specs.Lookup.{Looked, lookupWords}
+use Rattle.image_build.specs.Build.{listed, buildImage}
+use Rattle.listing.specs.Listing.{listRuns}
+use Rattle.table_runs.specs.TableRuns.{tableRuns}
+
+-- what a call on a table, or on an image, is handed; every number is a word of 32 bits
+pub record TableCall : Type 0 where
+  pub rows : List ℕ
+  pub n : ℕ
+  pub value : ℕ
+  pub len : ℕ
+  pub port : ℕ
+  pub fit : Words 32 (n ∷ value ∷ len ∷ port ∷ rows)
+
+pub record ImageCall : Type 0 where
+  pub stride : ℕ
+  pub nodes : List ℕ
+  pub ports : List ℕ
+  pub address : ℕ
+  pub fit : Words 32 (stride ∷ address ∷ nodes ++ ports)
+
+-- the promises; an address is handed to a lookup as the value
+abbrev pub announcing : TableCall → Outcome Answer
+announcing x = announceInto 32 (x .rows) (x .n) (route (x .value) (x .len) (x .port))
+
+abbrev pub withdrawing : TableCall → Outcome Answer
+withdrawing x = withdrawInto 32 (x .rows) (x .n) (x .value) (x .len)
+
+abbrev pub lookingUp : TableCall → Found
+lookingUp x = lookupIn 32 (capacity (x .rows)) (rowAt (x .rows)) (x .n) (x .value)
+
+abbrev pub seeking : ImageCall → Looked
+seeking x = lookupWords 32 (x .stride) (x .nodes) (x .ports) (x .address)
+
+-- no function that answers what the promise says is such an impostor
+abbrev pub Stopped : {X Y : Type 0} → (X → Y) → ((X → Y) → Type 0) → Type 0
+Stopped {X} {Y} promise Impostor = (f : X → Y) → ((x : X) → f x ≡ promise x) → Impostor f → ⊥
+
+-- "One refuses everything"
+abbrev pub RefusesEverything : (TableCall → Outcome Answer) → Type 0
+RefusesEverything f = (x : TableCall) → f x .answer .number ≡ 0 → ⊥
+
+-- "One answers a fixed port"
+abbrev pub FixedPort : {X Y : Type 0} → (Y → ℕ) → (X → Y) → Type 0
+FixedPort {X} portOf f = (port : ℕ) × ((x : X) → portOf (f x) ≡ port)
+
+-- "One leaves the table untouched"
+abbrev pub LeavesUntouched : (TableCall → Outcome Answer) → Type 0
+LeavesUntouched f = (x : TableCall) → f x .lent ≡ x .rows
+
+-- "one takes the first announcement and ignores the later calls"
+abbrev pub FirstOnly : (TableCall → Outcome Answer) → Type 0
+FirstOnly f = (x : TableCall) → 0 < x .n → f x .lent ≡ x .rows
+
+-- "One invents its rows read": it says a number of its own
+abbrev pub InventsReads : {X Y : Type 0} → (Y → ℕ) → (X → Y) → Type 0
+InventsReads {X} readsOf f = (reads : ℕ) × ((x : X) → readsOf (f x) ≡ reads)
+
+pub record ImpostorsStopped : Type 0 where
+  pub refuses-announcements : Stopped announcing RefusesEverything
+  pub refuses-withdrawals : Stopped withdrawing RefusesEverything
+  pub fixed-port : Stopped lookingUp (FixedPort (λ x. x .port))
+  pub fixed-port-of-image : Stopped seeking (FixedPort (λ x. x .port))
+  pub untouched-by-announcing : Stopped announcing LeavesUntouched
+  pub untouched-by-withdrawing : Stopped withdrawing LeavesUntouched
+  pub first-announcement-only : Stopped announcing FirstOnly
+  pub later-withdrawals-ignored : Stopped withdrawing FirstOnly
+  pub invented-rows : Stopped lookingUp (InventsReads (λ x. x .reads))
+  pub invented-nodes : Stopped seeking (InventsReads (λ x. x .reads))
+
+-- "the table's exactly when stops it": every other call has something that it accepts, too
+pub record EachAccepts : Type 0 where
+  pub file-read : (file : List ℕ) × (list : List ℕ) × (readFile 32 file list .answer .number ≡ 0)
+  pub file-write : (list : List ℕ) × (file : List ℕ) × (writeFile 32 list file .answer .number ≡ 0)
+  pub list-check : (list : List ℕ) × (listCheck 32 list .number ≡ 0)
+  pub list-scan : (list : List ℕ) × (a : ℕ) × (listScan 32 list a .number ≡ 0)
+  pub list-runs : (list : List ℕ) × (runs : List ℕ) × (listRuns 32 list runs .answer .number ≡ 0)
+  pub table-check : (rows : List ℕ) × (n : ℕ) × (tableCheck 32 (capacity rows) (rowAt rows) n .number ≡ 0)
+  pub table-lookup : (x : TableCall) × (lookingUp x .number ≡ 0)
+  pub table-build : (list : List ℕ) × (rows : List ℕ) × (buildInto 32 list rows .answer .number ≡ 0)
+  pub table-save : (rows : List ℕ) × (n : ℕ) × (list : List ℕ) × (saveInto 32 (capacity rows) (rowAt rows) n list .answer .number ≡ 0)
+  pub table-runs : (rows : List ℕ) × (n : ℕ) × (runs : List ℕ) × (tableRuns 32 (capacity rows) (rowAt rows) n runs .answer .number ≡ 0)
+  pub image-build :
+      (s : ℕ) × (list : List ℕ) × (nodes : List ℕ) × (ports : List ℕ) × (buildImage 32 s list nodes ports .built .number ≡ 0)
+  pub image-lookup : (x : ImageCall) × (seeking x .number ≡ 0)
+
+-- "on a table in good order the number equals that of the trie defined above"
+abbrev pub RowsReadArePath : Type 0
+RowsReadArePath =
+    (f : TableCall → Found) → ((x : TableCall) → f x ≡ lookingUp x)
+    → (x : TableCall) (S : Routes) (good : GoodFor 32 (capacity (x .rows)) (rowAt (x .rows)) (x .n) S) → x .value < 2 ^ 32
+    → f x .reads ≡ reads (good .placed .trie) (bits 32 (x .value))
+
+-- "on a built image it is one more than the non-leaf slots passed"
+abbrev pub NodesReadArePassed : Type 0
+NodesReadArePassed =
+    (f : ImageCall → Looked) → ((x : ImageCall) → f x ≡ seeking x)
+    → (x : ImageCall) (list nodes ports : List ℕ) → Words 32 list → x .address < 2 ^ 32
+    → buildImage 32 (x .stride) list nodes ports .built .number ≡ 0
+    → x .nodes ≡ buildImage 32 (x .stride) list nodes ports .nodes → x .ports ≡ buildImage 32 (x .stride) list nodes ports .ports
+    → f x .reads ≡ passed (listed 32 list) (x .stride) (32 / x .stride) [] (bits 32 (x .address)) + 1

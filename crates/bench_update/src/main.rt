@@ -1,5 +1,5 @@
 // Bench example 8 of the rules, run: source document 004's Table I, built and then changed, with every row shown; the calls that
-// are refused; and a longer route below a shorter one that comes and goes.
+// are refused; a longer route below a shorter one that comes and goes; and one that the place of a withdrawn one is filled with.
 use libc::STDOUT_FILENO;
 use routes::Answer;
 use table::lookup;
@@ -185,8 +185,24 @@ fn nested() {
     show_words(&rows);
 }
 
+// "With routes /0, 0 and 0110, withdrawing /0 puts 0110 at the root, since 0 is ordinary and hides a longer one." The fourth row is
+// past the table and stays.
+fn hidden() {
+    let mut rows = [7u32; 20];
+    show(b"three_routes_one_hidden", build(&NESTED, &mut rows));
+    show(
+        b"the_whole_space_is_withdrawn",
+        withdraw(&mut rows, 3, 0, 0),
+    );
+    show_words(&rows);
+    show_port(b"0110_is_at_the_root", &rows, 2, 1610612736);
+    show_port(b"0111_goes_on_to_the_shorter", &rows, 2, 1879048192);
+    show_port(b"1_now_goes_nowhere", &rows, 2, 2147483648);
+}
+
 fn main() {
     example_8();
     refusals();
     nested();
+    hidden();
 }

@@ -5,10 +5,10 @@ use mathlib.Core.Bool.{Bool, true, false, Bool·beq, _&&_, false≢true}
 use mathlib.Core.List.{List, [], _∷_, _++_}
 use Prim.Native.Nat.{ℕ, zero, suc, _+_, _*_, _-_, _/_, _%_, _^_, _<_, _≤_}
 use native.Mathlib.Omega.{arith}
-use native.Mathlib.Nat.{div-div-eq-div-mul, pow-suc, pow-succ', sub-zero, suc-sub-suc, add-mul, mul-assoc, div-eq-of-lt, mod-eq-of-lt, div-one}
+use native.Mathlib.Nat.{div-div-eq-div-mul, pow-suc, pow-succ', sub-zero, suc-sub-suc, zero-add, suc-add, add-mul, mul-assoc, div-eq-of-lt, mod-eq-of-lt, div-one}
 use lib.Dec.{eqb}
 use lib.ListN.{length, take, length-append}
-use lib.Pow.{shr-shr, pow-add}
+use lib.Pow.{shr-shr, pow-add, field, mod-mod-pow}
 use borrow.Author.Tests.{eq-eqb, ne-eqb, eqb-true, eqb-false}
 use Rattle.bits.specs.Bits.{Bits, bit, value, bits, prefixBits, same, begins}
 use Rattle.bits.specs.Prefix.{span, head, matches}
@@ -89,6 +89,30 @@ pub length-bits : (k x : ℕ) → length (bits k x) ≡ k
 unfolding bits
 length-bits zero x = refl
 length-bits (suc k) x = ap suc (length-bits k x)
+
+-- the first bits of a number, and the rest
+pub bits-add : (s m x : ℕ) → bits (s + m) x ≡ bits s (x / 2 ^ m) ++ bits m x
+unfolding bits
+bits-add zero m x = ap (λ (k : ℕ). bits k x) (zero-add m)
+bits-add (suc s) m x =
+    let e : m + s ≡ s + m = omega arith in
+    ap (λ (k : ℕ). bits k x) (suc-add s m)
+    ∙ ap₂ (λ (b : Bool) (q : Bits). b ∷ q)
+    (ap (λ (y : ℕ). eqb (y % 2) 1) (sym (shr-shr x m s ∙ ap (λ (k : ℕ). x / 2 ^ k) e)))
+    (bits-add s m x)
+
+-- bits above the k lowest make no difference to those
+pub bits-mod : (m k x : ℕ) → bits k (x % 2 ^ (m + k)) ≡ bits k x
+unfolding bits
+bits-mod m zero x = refl
+bits-mod m (suc k) x =
+    let e : m + suc k ≡ suc m + k = omega arith in
+    let f : suc m ≡ m + 1 = omega arith in
+    ap (λ (n : ℕ). bits (suc k) (x % 2 ^ n)) e
+    ∙ ap₂ (λ (b : Bool) (q : Bits). b ∷ q)
+    (ap (λ (y : ℕ). eqb (y % 2) 1) (field x (suc m) k ∙ ap (λ (n : ℕ). x / 2 ^ k % 2 ^ n) f)
+    ∙ ap (λ (y : ℕ). eqb y 1) (mod-mod-pow (x / 2 ^ k) m 1))
+    (bits-mod (suc m) k x)
 
 -- j bits further into a number: those before, and the next j bits as a number
 pub value-take-bits : (j k x : ℕ) → j ≤ k → x / 2 ^ (k - j) ≡ x / 2 ^ k * 2 ^ j + value (take j (bits k x))

@@ -1,39 +1,13 @@
--- The bits of a number in strides: its first bits and the rest, and the bits of its last digit. Assumes nothing.
-use mathlib.Core.Path.{_≡_, refl, sym, ap, ap₂, _∙_}
-use mathlib.Core.Bool.{Bool}
-use mathlib.Core.List.{_∷_, _++_}
-use Prim.Native.Nat.{ℕ, zero, suc, _+_, _*_, _/_, _%_, _^_}
+-- The bits of a number in strides: those of one slot, and the rest. Assumes nothing.
+use mathlib.Core.Path.{_≡_, sym, ap, _∙_}
+use mathlib.Core.List.{_++_}
+use Prim.Native.Nat.{ℕ, suc, _+_, _*_, _/_, _%_, _^_}
 use native.Mathlib.Omega.{arith}
-use native.Mathlib.Nat.{zero-add, suc-add}
-use lib.Dec.{eqb}
+use native.Mathlib.Nat.{zero-add}
 use lib.ListN.{take, drop}
-use lib.Pow.{shr-shr, field, mod-mod-pow}
 use lib.Seq.{take-at, drop-at}
 use Rattle.bits.specs.Bits.{Bits, bits}
-use Rattle.bits.proofs.Bits.{length-bits}
-
-pub bits-add : (s m x : ℕ) → bits (s + m) x ≡ bits s (x / 2 ^ m) ++ bits m x
-unfolding bits
-bits-add zero m x = ap (λ (k : ℕ). bits k x) (zero-add m)
-bits-add (suc s) m x =
-    let e : m + s ≡ s + m = omega arith in
-    ap (λ (k : ℕ). bits k x) (suc-add s m)
-    ∙ ap₂ (λ (b : Bool) (q : Bits). b ∷ q)
-    (ap (λ (y : ℕ). eqb (y % 2) 1) (sym (shr-shr x m s ∙ ap (λ (k : ℕ). x / 2 ^ k) e)))
-    (bits-add s m x)
-
--- bits above the k lowest make no difference to those
-pub bits-mod : (m k x : ℕ) → bits k (x % 2 ^ (m + k)) ≡ bits k x
-unfolding bits
-bits-mod m zero x = refl
-bits-mod m (suc k) x =
-    let e : m + suc k ≡ suc m + k = omega arith in
-    let f : suc m ≡ m + 1 = omega arith in
-    ap (λ (n : ℕ). bits (suc k) (x % 2 ^ n)) e
-    ∙ ap₂ (λ (b : Bool) (q : Bits). b ∷ q)
-    (ap (λ (y : ℕ). eqb (y % 2) 1) (field x (suc m) k ∙ ap (λ (n : ℕ). x / 2 ^ k % 2 ^ n) f)
-    ∙ ap (λ (y : ℕ). eqb y 1) (mod-mod-pow (x / 2 ^ k) m 1))
-    (bits-mod (suc m) k x)
+use Rattle.bits.proofs.Bits.{length-bits, bits-add, bits-mod}
 
 module _ (s k x : ℕ) where
   -- an address's bits on k levels more: those of its slot, then the rest

@@ -68,9 +68,3 @@ module _ {A : Type 0} (P : A → Type 0) where
   unfolding listOf
   all-list-of R zero i h = tt
   all-list-of R (suc k) i h = (h i, all-list-of R k (i + 1) h)
-
-pub getD-list-of : {A : Type 0} (R : ℕ → A) (k i j : ℕ) (d : A) → j < k → getD (listOf R k i) j d ≡ R (i + j)
-unfolding listOf
-getD-list-of R zero i j d h = absurd (omega arith)
-getD-list-of R (suc k) i zero d h = ap R (omega arith)
-getD-list-of R (suc k) i (suc j) d h = getD-list-of R k (i + 1) j d (omega arith) ∙ ap R (omega arith)

@@ -1,48 +1,34 @@
 -- A valid list of routes has an image, and a lookup there gives the plain scan of the list. Assumes nothing.
-use mathlib.Core.Path.{_≡_, refl, sym, ap, _∙_, subst}
-use mathlib.Core.List.{List, [], _∷_, List·Memᴰ}
-use Prim.Native.Nat.{ℕ, zero, suc, _+_, _/_, _≤_, _<_}
+use mathlib.Core.Path.{sym, ap, _∙_, subst}
+use mathlib.Core.List.{[], List·Memᴰ}
+use Prim.Native.Nat.{ℕ, _+_, _/_, _≤_, _<_}
 use native.Mathlib.Omega.{arith}
 use lib.ListN.{length}
 use Rattle.bits.specs.Bits.{bits}
 use Rattle.bits.proofs.Bits.{length-take-bits}
-use Rattle.trie.specs.Routes.{Route, Distinct}
+use Rattle.trie.specs.Routes.{Route}
 use Rattle.routes.specs.Routes.{listOf, bitRoute, ValidRoute, ValidList}
 use Rattle.routes.specs.Refusals.{lastPort}
 use Rattle.routes.specs.declared.Route.{Route as ListRoute}
 use Rattle.routes.proofs.Numbered.{mem-list-of, map-list-of}
-use Rattle.routes.proofs.Rising.{prefixes-differ}
-use Rattle.routes.proofs.Held.{scan-is-held}
+use Rattle.routes.proofs.Held.{bitAt, bits-distinct, scan-is-held}
 use Rattle.breadth.specs.Image.{passed, routesOf, Imaged}
 use Rattle.breadth.specs.Lookup.{answered}
 use Rattle.breadth.specs.Theorems.{ValidImaged, LookupIsListScan}
 use Rattle.breadth.proofs.Image.{lookup-is-scan}
 
 module _ (w : ℕ) (R : ℕ → ListRoute) (n : ℕ) (ok : ValidList w R n) where
-  abbrev bitAt : ℕ → Route
-  bitAt i = bitRoute w (R i)
-
-  distinct-from : (k i : ℕ) → i + k ≤ n → Distinct (listOf bitAt k i)
-  unfolding listOf
-  distinct-from zero i h = tt
-  distinct-from (suc k) i h = (differ, distinct-from k (i + 1) (omega arith))
-    where
-      differ : (x : Route) → List·Memᴰ x (listOf bitAt k (i + 1)) → x .prefix ≡ bitAt i .prefix → ⊥
-      differ x m e =
-          let s = mem-list-of bitAt k (i + 1) x m in
-          prefixes-differ w R n ok i (s .at) (omega arith) (omega arith) (sym (ap (λ (r : Route). r .prefix) (s .is)) ∙ e)
-
   -- a fact of each route of the list
   each : (P : Route → Type 0) → ((r : ListRoute) → ValidRoute w r → P (bitRoute w r))
-      → (x : Route) → List·Memᴰ x (listOf bitAt n 0) → P x
+      → (x : Route) → List·Memᴰ x (listOf (bitAt w R n ok) n 0) → P x
   each P f x m =
-      let s = mem-list-of bitAt n 0 x m in
+      let s = mem-list-of (bitAt w R n ok) n 0 x m in
       subst P (sym (s .is)) (f (R (s .at)) (ok .each (s .at) (omega arith)))
 
 pub valid-imaged : ValidImaged
 valid-imaged w R n ok =
     subst (Imaged w) (sym (map-list-of (bitRoute w) R n 0)) record {
-      distinct = distinct-from w R n ok n 0 (omega arith);
+      distinct = bits-distinct w R n ok n 0 (omega arith);
       ported = each w R n ok (λ x. 0 < x .port) (λ r v. v .some);
       short = each w R n ok (λ x. length (x .prefix) ≤ w)
           (λ r v. omega (arith, length-take-bits (r .len) w (r .value) (v .prefix .short), v .prefix .short));

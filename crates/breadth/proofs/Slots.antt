@@ -11,13 +11,13 @@ use Rattle.bits.specs.Bitmap.{slotBit}
 use Rattle.bits.proofs.Bits.{length-bits}
 use Rattle.trie.specs.Routes.{Route}
 use Rattle.trie.specs.Scan.{scanList}
-use Rattle.routes.proofs.Numbered.{length-list-of}
+use Rattle.routes.proofs.Numbered.{length-list-of, getD-list-of}
 use Rattle.breadth.specs.Flat.{flat, upto}
 use Rattle.breadth.specs.Node.{isNode, bitmapOf}
 use Rattle.breadth.specs.Breadth.{leaf, nonLeaf, leafBit, children}
 use Rattle.breadth.specs.Image.{someLonger, slotOf, slotBits, slots, imagePaths, imageNodes, imagePorts}
 use Rattle.breadth.specs.Lookup.{leafOf, childAt}
-use Rattle.breadth.proofs.Flat.{All, all-list-of, getD-list-of}
+use Rattle.breadth.proofs.Flat.{All, all-list-of}
 use Rattle.breadth.proofs.Numbering.{Below, levels-is, first-child-lt}
 use Rattle.breadth.proofs.Longer.{some-longer→}
 use Rattle.breadth.proofs.Words.{is-node, bitmap-small, slot-bit-is, leaf-lent, port-is, Numbers, child-numbers}

@@ -1,6 +1,5 @@
 -- The file of a valid list is accepted, and its routes are those of the list. Assumes nothing.
 use mathlib.Core.Path.{_≡_, refl, sym, ap, _∙_}
-use mathlib.Core.Bool.{true, or-true}
 use mathlib.Core.List.{List, _++_, append-assoc}
 use Prim.Native.Nat.{ℕ, zero, suc, _+_, _-_, _*_, _/_, _%_, _^_, _≤_, _<_}
 use native.Mathlib.Omega.{arith}
@@ -13,6 +12,7 @@ use Rattle.routes.specs.Routes.{ValidRoute, ValidList}
 use Rattle.routes.specs.Check.{isPort, above}
 use Rattle.routes.specs.declared.Route.{Route}
 use Rattle.routes.proofs.Faults.{valid-faultless}
+use Rattle.routes.proofs.Check.{valid-above}
 use Rattle.file.specs.Bytes.{number, digits}
 use Rattle.file.specs.File.{headSize, prefixBytes, sizeFor, bitsAfter, lenAt, spare, readAt, placeOf, fileRoute, inOrder, routeBytes, bodyOf, headOf, fileOf}
 use Rattle.file.specs.Check.{Headed, Whole}
@@ -83,14 +83,6 @@ module _ (w : ℕ) (wide : FileWidth w) (r : Route) (ok : ValidRoute w r) where
         rw len-written
         (omega (arith, ap length (s .is) ∙ length-append (s .before) (routeBytes w r ++ s .after), length-append (routeBytes w r) (s .after), length-route-bytes w r, s .begins))
 
--- a list that rises is above at each route
-rises-above : (w : ℕ) (R : ℕ → Route) (n i : ℕ) → ValidList w R n → i < n → above R i ≡ true
-rises-above w R n zero ok h = refl
-rises-above w R n (suc i) ok h =
-    let e : suc i - 1 ≡ i = omega arith in
-    let f : i + 1 ≡ suc i = omega arith in
-    rw (e, rw f at (ok .rises i (omega arith)), or-true)
-
 module _ (w : ℕ) (wide : FileWidth w) (R : ℕ → Route) (n : ℕ) (ok : ValidList w R n) where
   abbrev file : List ℕ
   file = fileOf w R n
@@ -143,7 +135,7 @@ module _ (w : ℕ) (wide : FileWidth w) (R : ℕ → Route) (n : ℕ) (ok : Vali
   sound-written : (i : ℕ) → i < n → Sound w file i
   sound-written i h =
       let r = ok .each i h in
-      let v = valid-faultless w R i r (rises-above w R n i ok h) in
+      let v = valid-faultless w R i r (valid-above w R n i ok h) in
       let s = spared-written i h in
       record {
         few = omega (arith, ok .few);

@@ -1,21 +1,15 @@
 -- Routes that agree have one listing, and ports that agree too. Assumes nothing.
-use mathlib.Core.Path.{_≡_, refl, ap, ap₂}
+use mathlib.Core.Path.{_≡_, ap}
 use mathlib.Core.List.{List, [], _∷_}
-use Prim.Native.Nat.{ℕ, zero, suc, _+_, _^_, _≤_, _<_}
+use Prim.Native.Nat.{ℕ, _+_, _^_, _<_}
 use native.Mathlib.Omega.{arith}
 use Rattle.trie.specs.Scan.{plainScan}
-use Rattle.routes.specs.Routes.{listOf, ValidList}
+use Rattle.routes.specs.Routes.{ValidList}
 use Rattle.routes.specs.Scan.{routeMatches}
 use Rattle.routes.specs.declared.Route.{Route}
+use Rattle.routes.proofs.Numbered.{list-of-same}
 use Rattle.listing.specs.Runs.{Run, Lists, runs}
 use Rattle.listing.specs.Listing.{listed}
-
-list-of-same : (R Q : ℕ → Route) (k i : ℕ) → ((j : ℕ) → i ≤ j → j < i + k → R j ≡ Q j) → listOf R k i ≡ listOf Q k i
-unfolding listOf
-list-of-same R Q zero i e = refl
-list-of-same R Q (suc k) i e =
-    ap₂ (λ (r : Route) (rs : List Route). r ∷ rs) (e i (omega arith) (omega arith))
-    (list-of-same R Q k (i + 1) (λ j u v. e j (omega arith) (omega arith)))
 
 -- routes that agree below n
 module _ (w : ℕ) (R Q : ℕ → Route) (n : ℕ) (e : (j : ℕ) → j < n → R j ≡ Q j) where

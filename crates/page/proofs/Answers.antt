@@ -2,8 +2,8 @@
 use mathlib.Core.Path.{_≡_, refl, sym, ap, ap₂, _∙_}
 use mathlib.Core.Logic.{_⊎_, inl, inr, ⊎-elim}
 use mathlib.Core.Bool.{true, false, cond}
-use mathlib.Core.List.{List, [], _∷_, _++_}
-use Prim.Native.Nat.{ℕ, zero, suc, _+_, _*_, _/_, _^_, _≤_, _<_}
+use mathlib.Core.List.{List, _++_}
+use Prim.Native.Nat.{ℕ, _+_, _*_, _/_, _≤_, _<_}
 use native.Mathlib.Omega.{arith}
 use lib.Dec.{eqb, leb}
 use lib.ListN.{length, getD, drop, List·getD-append}
@@ -11,8 +11,7 @@ use borrow.Author.Tests.{eq-eqb, ne-eqb, eqb-true, eqb-false, le-leb, lt-leb, le
 use Rattle.promise.specs.Over.{Outcome, outcome, over}
 use Rattle.bits.proofs.Tests.{way}
 use Rattle.routes.specs.Refusals.{noRoom, refused, accepted}
-use Rattle.routes.specs.Routes.{routeAt, listOf, ValidList}
-use Rattle.routes.specs.Scan.{scanOf, routeMatches}
+use Rattle.routes.specs.Routes.{routeAt, listOf}
 use Rattle.routes.specs.declared.Answer.{Answer}
 use Rattle.routes.specs.declared.Route.{Route}
 use Rattle.file.specs.Bytes.{Bytes}
@@ -24,10 +23,10 @@ use Rattle.file.proofs.Words.{length-list, route-in-list}
 use Rattle.file.proofs.Trips.{checked-refused, checked-short, checked-done, done-checked}
 use Rattle.file.proofs.Walk.{accepted-whole}
 use Rattle.file.proofs.Accepted.{file-valid}
-use Rattle.trie.specs.Scan.{plainScan}
-use Rattle.listing.specs.Runs.{Run, runs, runWords}
+use Rattle.listing.specs.Runs.{Run, runWords}
 use Rattle.listing.specs.Listing.{listed, mostRuns, writeRuns}
 use Rattle.listing.proofs.Listing.{listed-few, length-run-words}
+use Rattle.listing.proofs.Same.{listed-same, valid-same}
 use Rattle.page.specs.Page.{linesOf, header, runsText, refusedText, mostBytes, mostRoutesShown, pageText, pageRoom, pageOf, runAt}
 use Rattle.page.specs.Put.{Wrote, Lined, Shown}
 use Rattle.page.proofs.Wrote.{wrote-as, wrote-over}
@@ -80,26 +79,6 @@ page-none file out h = simp (lt-leb pageRoom (length out) h)
 pub page-long : (file : List ℕ) → mostBytes < length file → refusedText (refused noRoom 0) ≡ pageText 32 file
 unfolding pageText
 page-long file h = simp (lt-leb (length file) mostBytes h)
-
--- routes that agree
-
-list-of-same : (R Q : ℕ → Route) (k i : ℕ) → ((j : ℕ) → i ≤ j → j < i + k → R j ≡ Q j) → listOf R k i ≡ listOf Q k i
-unfolding listOf
-list-of-same R Q zero i e = refl
-list-of-same R Q (suc k) i e =
-    ap₂ (λ (r : Route) (rs : List Route). r ∷ rs) (e i (omega arith) (omega arith)) (list-of-same R Q k (i + 1) (λ j u v. e j (omega arith) (omega arith)))
-
-listed-same : (w : ℕ) (R Q : ℕ → Route) (n : ℕ) → ((j : ℕ) → j < n → R j ≡ Q j) → listed w R n ≡ listed w Q n
-listed-same w R Q n e =
-    ap (λ (rs : List Route). runs (λ (a : ℕ). plainScan (routeMatches w a) (λ r. r .len) (λ r. r .port) rs) (2 ^ w))
-    (list-of-same R Q n 0 (λ j u v. e j (omega arith)))
-
-valid-same : (w : ℕ) (R Q : ℕ → Route) (n : ℕ) → ((j : ℕ) → j < n → R j ≡ Q j) → ValidList w R n → ValidList w Q n
-valid-same w R Q n e ok = record {
-  few = ok .few;
-  each = λ i h. rw (← e i h) (ok .each i h);
-  rises = λ i h. rw (← e i (omega arith), ← e (i + 1) h) (ok .rises i h);
-}
 
 -- the routes of words over the front of lent ones
 route-over : (R : ℕ → Route) (n i : ℕ) (lent : List ℕ) → i < n → R i ≡ routeAt (over (listOfRoutes R n) lent) i

@@ -53,7 +53,8 @@ none-valid w R n few fits none = record {
   rises = λ i h. faultless-rises w R i (fault-none w R (i + 1) (none (i + 1) h));
 }
 
-valid-above : (w : ℕ) (R : ℕ → Route) (n i : ℕ) → ValidList w R n → i < n → above R i ≡ true
+-- a valid list is above at each route
+pub valid-above : (w : ℕ) (R : ℕ → Route) (n i : ℕ) → ValidList w R n → i < n → above R i ≡ true
 valid-above w R n zero ok h = refl
 valid-above w R n (suc i) ok h =
     let e : suc i - 1 ≡ i = omega arith in

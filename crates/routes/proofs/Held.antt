@@ -43,10 +43,11 @@ module _ {X Y : Type 0} (match : X → Bool) (len port : X → ℕ) (match′ : 
 
 module _ (w : ℕ) (R : ℕ → Route) (n : ℕ) (ok : ValidList w R n) where
   -- route i by its bits
-  abbrev bitAt : ℕ → BitRoute
+  abbrev pub bitAt : ℕ → BitRoute
   bitAt i = bitRoute w (R i)
 
-  bits-distinct : (k i : ℕ) → i + k ≤ n → Distinct (listOf bitAt k i)
+  -- no two of them have one prefix
+  pub bits-distinct : (k i : ℕ) → i + k ≤ n → Distinct (listOf bitAt k i)
   unfolding listOf
   bits-distinct zero i h = tt
   bits-distinct (suc k) i h = (differ, bits-distinct k (i + 1) (omega arith))

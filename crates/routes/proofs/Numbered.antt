@@ -1,10 +1,10 @@
--- Laws of the list of elements by their numbers: one more at its end, and what is in it. Assumes nothing.
-use mathlib.Core.Path.{_≡_, refl, ap, _∙_}
+-- Laws of the list of elements by their numbers: one more at its end, element j, what is in it, and agreement. Assumes nothing.
+use mathlib.Core.Path.{_≡_, refl, ap, ap₂, _∙_}
 use mathlib.Core.Logic.{_⊎_, inl, inr}
 use mathlib.Core.List.{List, [], _∷_, _++_, map, List·Memᴰ, List·Memᴰ·cases-cons, List·Memᴰ·not-nil}
 use Prim.Native.Nat.{ℕ, zero, suc, _+_, _≤_, _<_}
 use native.Mathlib.Omega.{arith}
-use lib.ListN.{length}
+use lib.ListN.{length, getD}
 use Rattle.routes.specs.Routes.{listOf}
 
 module _ {X : Type 0} where
@@ -24,6 +24,20 @@ module _ {X : Type 0} where
   unfolding listOf
   map-list-of f R zero i = refl
   map-list-of {Y} f R (suc k) i = ap (λ (ys : List Y). f (R i) ∷ ys) (map-list-of f R k (i + 1))
+
+  pub getD-list-of : (R : ℕ → X) (k i j : ℕ) (d : X) → j < k → getD (listOf R k i) j d ≡ R (i + j)
+  unfolding listOf
+  getD-list-of R zero i j d h = absurd (omega arith)
+  getD-list-of R (suc k) i zero d h = ap R (omega arith)
+  getD-list-of R (suc k) i (suc j) d h = getD-list-of R k (i + 1) j d (omega arith) ∙ ap R (omega arith)
+
+  -- elements that agree
+  pub list-of-same : (R Q : ℕ → X) (k i : ℕ) → ((j : ℕ) → i ≤ j → j < i + k → R j ≡ Q j) → listOf R k i ≡ listOf Q k i
+  unfolding listOf
+  list-of-same R Q zero i e = refl
+  list-of-same R Q (suc k) i e =
+      ap₂ (λ (x : X) (xs : List X). x ∷ xs) (e i (omega arith) (omega arith))
+      (list-of-same R Q k (i + 1) (λ j u v. e j (omega arith) (omega arith)))
 
   -- x is one of k elements from number i on
   pub record Among (R : ℕ → X) (k i : ℕ) (x : X) : Type 0 where

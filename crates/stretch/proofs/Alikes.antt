@@ -15,7 +15,7 @@ use borrow.Author.Tests.{lt-ltb, eq-eqb, eqb-true, ltb-true, ltb-false}
 use Rattle.bits.specs.Bits.{Bits, bits, prefixBits, begins}
 use Rattle.bits.specs.Prefix.{span, head, matches}
 use Rattle.bits.proofs.Tests.{way, both, test-eq, test-no}
-use Rattle.bits.proofs.Bits.{length-bits, length-take-bits, matches-begins}
+use Rattle.bits.proofs.Bits.{length-bits, length-take-bits, matches-begins, bits-add, bits-mod}
 use Rattle.bits.proofs.Prefix.{span-pos, head-rest, first-valid, matches→within, matches-refl}
 use Rattle.bits.proofs.Order.{zeros-longer}
 use Rattle.trie.specs.Routes.{Route as BitRoute}
@@ -30,7 +30,6 @@ use Rattle.routes.proofs.Scan.{scan-is-last}
 use Rattle.routes.proofs.Held.{scan-is-held}
 use Rattle.breadth.specs.Image.{someLonger, Longer, slotBits, routesOf}
 use Rattle.breadth.proofs.Flat.{lt-or-le}
-use Rattle.breadth.proofs.Digits.{bits-add, bits-mod}
 use Rattle.breadth.proofs.Longer.{some-longer, some-longer→, scan-more}
 use Rattle.breadth.proofs.Listed.{valid-imaged}
 use Rattle.stretch.specs.declared.Stretch.{Stretch}

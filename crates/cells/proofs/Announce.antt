@@ -22,7 +22,7 @@ use Rattle.cells.specs.Announce.{isSame, isOver, pick, sinkBy, sink}
 use Rattle.cells.specs.declared.Row.{Row}
 use Rattle.cells.proofs.Paths.{At, at-bit, at-down, at-last, at-same, at-over}
 use Rattle.cells.proofs.Holds.{hit-same, hit-other, row-at, Below, below-root, below-child, times-child}
-use Rattle.cells.proofs.Frame.{Agree, times-frame, holds-frame, Unique, SideChanged, side-holds, side-times, unique-child, root-not-below, sides-apart}
+use Rattle.cells.proofs.Frame.{Agree, times-frame, holds-frame, Unique, SideChanged, side-holds, side-times, unique-child, root-not-below, below-not-root, sides-apart}
 
 -- a valid route whose prefix is the path and then y
 pub record RouteAt (w : ℕ) (path : Bits) (q : Route) (y : Bits) : Type 0 where
@@ -117,10 +117,7 @@ module _ {S : Type 0} (get : S → Mem) (put : S → ℕ → Row → S) (room : 
 
     -- a row below a child is neither r nor n
     not-r : (b : Bool) (i : ℕ) → 0 < times (get m) (child x b) (c b) i → i ≡ r → ⊥
-    not-r b i k e =
-        let z : times (get m) (child x b) (c b) i ≡ 0 =
-        ap (times (get m) (child x b) (c b)) e ∙ root-not-below (get m) r s p c once b in
-        omega arith
+    not-r = below-not-root (get m) r s p c once
 
     not-n : (b : Bool) (i : ℕ) → 0 < times (get m) (child x b) (c b) i → i ≡ n → ⊥
     not-n b i k e = let z : i < n = below-child (get m) r s p c n b low i k in omega arith

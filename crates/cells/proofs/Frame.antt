@@ -118,5 +118,10 @@ module _ (M : Mem) (r : ℕ) (s : Bits) (p : ℕ) (c : Bool → Trie) (once : Un
   pub root-not-below : (b : Bool) → times M (child (M r) b) (c b) r ≡ 0
   root-not-below b = omega (arith, hit-same r, times-child M r s p c b r, once r)
 
+  pub below-not-root : (b : Bool) (i : ℕ) → 0 < times M (child (M r) b) (c b) i → i ≡ r → ⊥
+  below-not-root b i k e =
+      let z : times M (child (M r) b) (c b) i ≡ 0 = ap (times M (child (M r) b) (c b)) e ∙ root-not-below b in
+      omega arith
+
   pub sides-apart : (b : Bool) (i : ℕ) → 0 < times M (child (M r) (not b)) (c (not b)) i → times M (child (M r) b) (c b) i ≡ 0
   sides-apart b i h = omega (arith, times-sides M r s p c b i, once i)

@@ -20,7 +20,7 @@ use Rattle.cells.specs.Lookup.{bitBefore}
 use Rattle.cells.specs.Withdraw.{relink}
 use Rattle.cells.specs.declared.Row.{Row}
 use Rattle.cells.proofs.Holds.{hit-same, hit-other, times-child, too-deep}
-use Rattle.cells.proofs.Frame.{Agree, times-frame, holds-frame, times-sides, Unique, SideChanged, side-holds, side-times, unique-child, root-not-below, sides-apart}
+use Rattle.cells.proofs.Frame.{Agree, times-frame, holds-frame, times-sides, Unique, SideChanged, side-holds, side-times, unique-child, root-not-below, below-not-root, sides-apart}
 use Rattle.cells.proofs.Announce.{with-own, with-other}
 
 -- a row that is reached from a path has a valid route whose prefix begins with the path
@@ -126,9 +126,7 @@ module _ {S : Type 0} (get : S → Mem) (put : S → ℕ → Row → S) (room : 
         bit-at path w k (get m last .len) v b (d .rest) (d .is ∙ append-assoc path (b ∷ []) (d .rest)) (sym deep)
 
     below-not-r : (d : Bool) (i : ℕ) → 0 < times (get m) (child x d) (c d) i → i ≡ r → ⊥
-    below-not-r d i g e =
-        let z : times (get m) (child x d) (c d) i ≡ 0 = ap (times (get m) (child x d) (c d)) e ∙ root-not-below (get m) r s p c once d in
-        omega arith
+    below-not-r = below-not-root (get m) r s p c once
 
     below-not-f : (d : Bool) (i : ℕ) → 0 < times (get m) (child x d) (c d) i → i ≡ f → ⊥
     below-not-f d i g e = omega (arith, times-child (get m) r s p c d i, ap (times (get m) r (node s p c)) e)

@@ -27,7 +27,7 @@ use Rattle.cells.specs.Withdraw.{bestBelow, isLast, Cut, cutBy, cut}
 use Rattle.cells.specs.declared.Row.{Row}
 use Rattle.cells.proofs.Paths.{At, at-bit, at-down, at-last, at-same}
 use Rattle.cells.proofs.Holds.{hit-same, row-at, times-child, too-deep}
-use Rattle.cells.proofs.Frame.{Agree, times-frame, holds-frame, Unique, SideChanged, side-holds, side-times, unique-child, root-not-below, sides-apart}
+use Rattle.cells.proofs.Frame.{Agree, times-frame, holds-frame, Unique, SideChanged, side-holds, side-times, unique-child, root-not-below, below-not-root, sides-apart}
 use Rattle.cells.proofs.Announce.{RouteAt, at-of, route-down, route-row, down-own, down-other, with-own, with-other, route-keeps}
 use Rattle.cells.proofs.Best.{Finds, below-is}
 
@@ -130,10 +130,7 @@ module _ {S : Type 0} (get : S → Mem) (put : S → ℕ → Row → S) (room : 
     r-lies = lies r (omega (arith, hit-same r))
 
     not-r : (d : Bool) (i : ℕ) → 0 < times (get m) (child x d) (c d) i → i ≡ r → ⊥
-    not-r d i g e =
-        let z : times (get m) (child x d) (c d) i ≡ 0 =
-        ap (times (get m) (child x d) (c d)) e ∙ root-not-below (get m) r s p c once d in
-        omega arith
+    not-r = below-not-root (get m) r s p c once
 
     -- the route that goes is on side b
     there : c b ≡ leaf → ⊥

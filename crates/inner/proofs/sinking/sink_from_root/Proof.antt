@@ -1,9 +1,13 @@
 use borrow.Author.Needs.{needs}
 use native.Mathlib.Omega.{arith}
 use mathlib.Core.Path.{_≡_, refl, sym, ap, _∙_}
+use mathlib.Core.Bool.{Bool, true}
+use mathlib.Core.List.{List}
+use Prim.Native.Nat.{ℕ}
 use lib.ListN.{length-set}
 use Rattle.cells.specs.Rows.{withRoute}
-use Rattle.cells.specs.Words.{storeRow}
+use Rattle.cells.specs.Words.{rowAt, storeRow}
+use Rattle.cells.specs.Announce.{isSame, sink}
 use Rattle.cells.specs.declared.Row.{Row}
 use Rattle.inner.proofs.Sunk.{Sinking, row-lies, sinking-same, sinking-last, sinking-fits, sinking-leaf, sinking-more}
 use Rattle.inner.proofs.sinking.sink_from_root.Statement.{statement}
@@ -19,6 +23,17 @@ loop-holds : tie.Need-loop-holds Inv-loop μ-loop
 loop-holds c =
     let p = c .before .pre in
     record { bits = search needs; below = p .0 .some; size = refl; closed = p .0 .closed; fits = p .1; rest = refl }
+
+-- the prefix is at the row that the loop has come to
+sunk-here : (t : tie.At-loop Inv-loop μ-loop) {x y : Row} {a : Bool} {ws : List ℕ}
+    → let l = t .loop in
+    let e = t .before .before .args in
+    x ≡ rowAt (l .rows) (l .row) → a ≡ isSame (l .q) x → a ≡ true → y ≡ withRoute x (l .q) → ws ≡ storeRow (l .rows) (l .row) y
+    → ws ≡ sink rowAt storeRow 32 32 (e .rows .now) (e .n) 0 (e .route)
+sunk-here t {x} {y} {a} {ws} is same here with-q stored =
+    let l = t .loop in
+    sinking-same 32 _ (l .rows) _ _ (l .q) (l .left) (l .row) (t .before .before .pre .0 .lies) (l .inv) x is a same here ws
+    (stored ∙ ap (λ (z : Row). storeRow (l .rows) (l .row) z) with-q)
 
 row-at-requires : tie.Need-row-at-requires Inv-loop μ-loop
 row-at-requires c κs = search needs
@@ -41,10 +56,7 @@ returns : tie.Need-returns Inv-loop μ-loop
 returns c =
     let d = c .before .before in
     let s = d .before .before .before .before in
-    let x = s .before in
-    let l = x .before .before .before .loop in
-    sinking-same 32 _ (l .rows) _ _ (l .q) (l .left) (l .row) (x .before .before .before .before .before .pre .0 .lies) (l .inv) (x .row-at .result) (x .row-at .ensures) (s .is-same .result) (s .is-same .ensures) (d .before .before .before .if1 .taken) _
-    (d .store-row .ensures ∙ ap (λ (y : Row). storeRow (l .rows) (l .row) y) (d .before .with-route .ensures))
+    sunk-here (s .before .before .before .before) (s .before .row-at .ensures) (s .is-same .ensures) (d .before .before .before .if1 .taken) (d .before .with-route .ensures) (d .store-row .ensures)
 
 sub-left : tie.Need-sub-left Inv-loop μ-loop
 sub-left c = search needs
@@ -113,10 +125,7 @@ returns-3 : tie.Need-returns-3 Inv-loop μ-loop
 returns-3 c =
     let d = c .before .before in
     let s = d .before .before .before .before in
-    let x = s .before in
-    let l = x .before .before .before .loop in
-    sinking-same 32 _ (l .rows) _ _ (l .q) (l .left) (l .row) (x .before .before .before .before .before .pre .0 .lies) (l .inv) (x .row-at2 .result) (x .row-at2 .ensures) (s .is-same2 .result) (s .is-same2 .ensures) (d .before .before .before .if3 .taken) _
-    (d .store-row3 .ensures ∙ ap (λ (y : Row). storeRow (l .rows) (l .row) y) (d .before .with-route2 .ensures))
+    sunk-here (s .before .before .before .before) (s .before .row-at2 .ensures) (s .is-same2 .ensures) (d .before .before .before .if3 .taken) (d .before .with-route2 .ensures) (d .store-row3 .ensures)
 
 same-length-4 : tie.Need-same-length-4 Inv-loop μ-loop
 same-length-4 c = search needs

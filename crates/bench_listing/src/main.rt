@@ -1,8 +1,63 @@
-// The examples of the run listing in the rules, run: one line `claim value` each. "done" comes with the count of runs,
+// The examples of the run listing in the rules, run, of a list and of a table: one line `claim value` each. "done" comes with the count of runs,
 // "refused" with the number and the place; then come the words that were lent, 9 where nothing was written.
 use libc::STDOUT_FILENO;
 use routes::Answer;
 use sweep::list_runs;
+use table_runs::table_runs;
+
+// "rows 0..9 hold 100110, 00, 10010, 01, 10011, 11, 1000, 101, 1110, 1111": value, length, port, left row, right row.
+const TABLE_I: [u32; 50] = [
+    2550136832,
+    6,
+    1,
+    1,
+    2,
+    0,
+    2,
+    2,
+    0,
+    3,
+    2415919104,
+    5,
+    3,
+    4,
+    5,
+    1073741824,
+    2,
+    4,
+    0,
+    0,
+    2550136832,
+    5,
+    5,
+    6,
+    7,
+    3221225472,
+    2,
+    6,
+    0,
+    8,
+    2147483648,
+    4,
+    7,
+    0,
+    0,
+    2684354560,
+    3,
+    8,
+    0,
+    0,
+    3758096384,
+    4,
+    9,
+    0,
+    9,
+    4026531840,
+    4,
+    10,
+    0,
+    0,
+];
 
 fn text(s: &[u8]) {
     io::write_all(STDOUT_FILENO, s);
@@ -158,6 +213,53 @@ fn too_many() {
     count(b"4097_routes_are_refused_8", &list, &mut runs);
 }
 
+// The runs of a table of n routes, where there is room for the words lent.
+fn table_listing(claim: &[u8], rows: &[u32], n: u32, runs: &mut [u32]) {
+    text(claim);
+    show(table_runs(rows, n, runs));
+    show_words(runs);
+}
+
+// Where there is room for three runs.
+fn three(claim: &[u8], rows: &[u32], n: u32) {
+    let mut runs = [9u32; 9];
+    table_listing(claim, rows, n, &mut runs);
+}
+
+// Table I, where there is room for its ten runs; for a word less; and for a word more.
+fn table_i() {
+    let mut runs = [9u32; 30];
+    let mut short = [9u32; 29];
+    let mut long = [9u32; 31];
+    table_listing(b"table_i_has_ten_runs", &TABLE_I, 10, &mut runs);
+    table_listing(b"room_for_29_words_is_refused_9", &TABLE_I, 10, &mut short);
+    table_listing(b"a_word_past_the_runs_stays", &TABLE_I, 10, &mut long);
+}
+
+// Example 12 as a table; 00 and 0, of which the longer is to be at the root; and tables not in good order. The last two have no
+// room for Table I's runs either: 11 comes before 9.
+fn tables() {
+    let none: [u32; 0] = [];
+    three(b"the_empty_table_has_one_run", &none, 0);
+    three(
+        b"example_12_as_a_table_has_three_runs",
+        &[167772160, 9, 7, 1, 0, 176160768, 9, 7, 0, 0],
+        2,
+    );
+    three(
+        b"the_longer_at_the_root_is_in_good_order",
+        &[0, 2, 2, 1, 0, 0, 1, 1, 0, 0],
+        2,
+    );
+    three(
+        b"the_shorter_at_the_root_is_refused_11",
+        &[0, 1, 1, 1, 0, 0, 2, 2, 0, 0],
+        2,
+    );
+    three(b"a_child_past_the_table_is_refused_11", &TABLE_I, 9);
+    three(b"more_routes_than_rows_are_refused_11", &TABLE_I, 11);
+}
+
 fn main() {
     neighbours();
     nested();
@@ -166,4 +268,6 @@ fn main() {
     refused();
     most();
     too_many();
+    table_i();
+    tables();
 }

@@ -1,0 +1,104 @@
+//! The image: an offset-encoded trie, built afresh from a list and read-only.
+
+use crate::calls::{self, Reply};
+use crate::list::RouteList;
+use crate::refusal::Refusal;
+use crate::route::Found;
+use std::net::Ipv4Addr;
+
+/// Words of a node: bitmap, offset, leaf base.
+const NODE_WORDS: usize = 3;
+
+/// Address bits that a lookup takes at each node.
+#[derive(Clone, Copy, PartialEq, Eq, Debug)]
+pub enum Stride {
+    /// One bit: two slots a node, at most 32 nodes read.
+    One = 1,
+    /// Two bits: four slots a node, at most 16 nodes read.
+    Two = 2,
+    /// Four bits: sixteen slots a node, at most 8 nodes read.
+    Four = 4,
+}
+
+impl TryFrom<u32> for Stride {
+    type Error = Refusal;
+
+    /// Refuses 12 for a number other than 1, 2 and 4.
+    fn try_from(bits: u32) -> Result<Stride, Refusal> {
+        match bits {
+            1 => Ok(Stride::One),
+            2 => Ok(Stride::Two),
+            4 => Ok(Stride::Four),
+            _ => Err(Refusal::StrideNot124),
+        }
+    }
+}
+
+/// The image of a list.
+///
+/// ```
+/// use maftehon::{Image, Refusal, Route, RouteList, Stride};
+/// use std::net::Ipv4Addr;
+///
+/// let list = RouteList::from_routes(&[Route::new(Ipv4Addr::new(10, 0, 0, 0), 8, 7)?])?;
+/// let image = Image::build(&list, Stride::Four);
+/// let found = image.lookup(Ipv4Addr::new(10, 1, 2, 3));
+/// assert_eq!((found.port, found.read), (Some(7), 2));
+/// # Ok::<(), Refusal>(())
+/// ```
+#[derive(Clone, PartialEq, Eq, Debug)]
+pub struct Image {
+    stride: Stride,
+    nodes: Vec<u32>,
+    ports: Vec<u16>,
+}
+
+impl Image {
+    /// The image of a list at this stride.
+    pub fn build(list: &RouteList, stride: Stride) -> Image {
+        let nodes_last = nodes_last(list.len(), stride);
+        let mut nodes = vec![0; nodes_last * NODE_WORDS];
+        let mut ports = vec![0; ports_last(nodes_last, stride)];
+        let [_, node_count, port_count] =
+            calls::image_build(stride as u32, list.words(), &mut nodes, &mut ports).done();
+        nodes.truncate(node_count as usize * NODE_WORDS);
+        nodes.shrink_to_fit();
+        ports.truncate(port_count as usize);
+        ports.shrink_to_fit();
+        Image { stride, nodes, ports }
+    }
+
+    /// The port of the longest match, and the nodes read.
+    pub fn lookup(&self, address: Ipv4Addr) -> Found {
+        Found::of(self.look(address.into()).done())
+    }
+
+    /// The lookup whose stride is a constant, which is quicker than the general one.
+    fn look(&self, address: u32) -> Reply<3> {
+        match self.stride {
+            Stride::One => calls::image_lookup_1(&self.nodes, &self.ports, address),
+            Stride::Two => calls::image_lookup_2(&self.nodes, &self.ports, address),
+            Stride::Four => calls::image_lookup_4(&self.nodes, &self.ports, address),
+        }
+    }
+
+    /// How many nodes it has.
+    pub fn node_count(&self) -> usize {
+        self.nodes.len() / NODE_WORDS
+    }
+
+    /// How many ports it has, one a leaf.
+    pub fn port_count(&self) -> usize {
+        self.ports.len()
+    }
+}
+
+/// A route of 32 bits is longer than the bits of 32/s - 1 nodes below the root, and no route of more.
+fn nodes_last(routes: usize, stride: Stride) -> usize {
+    1 + routes * (32 / stride as usize - 1)
+}
+
+/// Every node has 2^s slots; each node but the root fills one, and the others are leaves.
+fn ports_last(nodes: usize, stride: Stride) -> usize {
+    nodes * (1 << stride as usize) - (nodes - 1)
+}

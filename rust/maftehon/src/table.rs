@@ -1,0 +1,98 @@
+//! The table: a priority trie that takes announcements and withdrawals.
+
+use crate::calls;
+use crate::list::{room_for_runs, RouteList, ROUTES_LAST};
+use crate::refusal::Refusal;
+use crate::route::{Found, Route, Run, ROUTE_WORDS, RUN_WORDS};
+use std::net::Ipv4Addr;
+
+/// Words of a row: value, length, port, left row, right row.
+const ROW_WORDS: usize = 5;
+
+/// A table in good order, with room for a fixed number of routes.
+///
+/// ```
+/// use maftehon::{Refusal, Route, Table};
+/// use std::net::Ipv4Addr;
+///
+/// let mut table = Table::with_capacity(2);
+/// table.announce(Route::new(Ipv4Addr::new(10, 0, 0, 0), 8, 7)?)?;
+/// table.announce(Route::new(Ipv4Addr::new(10, 1, 0, 0), 16, 9)?)?;
+/// assert_eq!(table.lookup(Ipv4Addr::new(10, 1, 2, 3)).port, Some(9));
+///
+/// let full = table.announce(Route::new(Ipv4Addr::UNSPECIFIED, 0, 1)?);
+/// assert_eq!(full, Err(Refusal::NoRoom));
+///
+/// table.withdraw(Ipv4Addr::new(10, 1, 0, 0), 16)?;
+/// assert_eq!(table.lookup(Ipv4Addr::new(10, 1, 2, 3)).port, Some(7));
+/// # Ok::<(), Refusal>(())
+/// ```
+#[derive(Clone, PartialEq, Eq, Debug)]
+pub struct Table {
+    rows: Vec<u32>,
+    n: u32,
+}
+
+impl Table {
+    /// An empty table with room for that many routes, at most 4,096.
+    pub fn with_capacity(routes: usize) -> Table {
+        Table { rows: vec![0; routes.min(ROUTES_LAST) * ROW_WORDS], n: 0 }
+    }
+
+    /// The table of a list, with room for that many routes, at most 4,096. Refuses 9 where the list has more.
+    pub fn build(list: &RouteList, capacity: usize) -> Result<Table, Refusal> {
+        let mut table = Table::with_capacity(capacity);
+        let [_, n] = calls::table_build(list.words(), &mut table.rows).of_list()?;
+        table.n = n;
+        Ok(table)
+    }
+
+    /// Adds the route, or gives its prefix the new port. Refuses 9 for a new prefix in a full table.
+    pub fn announce(&mut self, route: Route) -> Result<(), Refusal> {
+        let [value, length, port] = route.words();
+        let [_, n] = calls::table_announce(&mut self.rows, self.n, value, length, port).of_whole()?;
+        self.n = n;
+        Ok(())
+    }
+
+    /// Takes the prefix out. Refuses 4, 5 for no valid prefix, then 10 where it is not held.
+    pub fn withdraw(&mut self, address: Ipv4Addr, length: u8) -> Result<(), Refusal> {
+        let [_, n] = calls::table_withdraw(&mut self.rows, self.n, address.into(), u32::from(length)).of_whole()?;
+        self.n = n;
+        Ok(())
+    }
+
+    /// The port of the longest match, and the rows read, at most 33.
+    pub fn lookup(&self, address: Ipv4Addr) -> Found {
+        Found::of(calls::table_lookup(&self.rows, self.n, address.into()).done())
+    }
+
+    /// The routes held, as a list.
+    pub fn save(&self) -> RouteList {
+        let mut words = vec![0; self.len() * ROUTE_WORDS];
+        calls::table_save(&self.rows, self.n, &mut words).done();
+        RouteList::from_words(words).expect("a saved table is a valid list")
+    }
+
+    /// The runs of the whole address space, ascending.
+    pub fn runs(&self) -> Vec<Run> {
+        let mut runs = room_for_runs(self.len());
+        let [_, count] = calls::table_runs(&self.rows, self.n, &mut runs).done();
+        Run::all_of(&runs[..count as usize * RUN_WORDS])
+    }
+
+    /// How many routes are held.
+    pub fn len(&self) -> usize {
+        self.n as usize
+    }
+
+    /// Whether no route is held.
+    pub fn is_empty(&self) -> bool {
+        self.n == 0
+    }
+
+    /// How many routes there is room for.
+    pub fn capacity(&self) -> usize {
+        self.rows.len() / ROW_WORDS
+    }
+}

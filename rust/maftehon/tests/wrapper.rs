@@ -1,0 +1,102 @@
+//! The ordinary wrapper: what it gives, and the texts of its refusals.
+
+use maftehon::{Image, Place, Refusal, Route, RouteList, Stride, Table};
+use std::net::Ipv4Addr;
+
+/// The three routes of `examples/floor.routes`.
+const FLOOR: &[u8] = include_bytes!("../../../examples/floor.routes");
+
+fn floor() -> RouteList {
+    RouteList::read(FLOOR).expect("the example is valid")
+}
+
+#[test]
+fn the_floor_example_has_seven_runs() {
+    let runs: Vec<String> = floor().runs().iter().map(|run| run.to_string()).collect();
+    let expected = [
+        "0.0.0.0 9.255.255.255 0",
+        "10.0.0.0 10.0.255.255 7",
+        "10.1.0.0 10.1.1.255 9",
+        "10.1.2.0 10.1.2.255 7",
+        "10.1.3.0 10.1.255.255 9",
+        "10.2.0.0 10.255.255.255 7",
+        "11.0.0.0 255.255.255.255 0",
+    ];
+    assert_eq!(runs, expected);
+}
+
+#[test]
+fn every_structure_gives_the_port_of_the_scan() {
+    let list = floor();
+    let table = Table::build(&list, 3).expect("room for three routes");
+    for stride in [Stride::One, Stride::Two, Stride::Four] {
+        let image = Image::build(&list, stride);
+        for run in list.runs() {
+            for address in [run.first, run.last] {
+                assert_eq!(list.scan(address), run.port);
+                assert_eq!(table.lookup(address).port, run.port);
+                assert_eq!(image.lookup(address).port, run.port);
+            }
+        }
+    }
+}
+
+#[test]
+fn a_saved_table_and_a_written_file_come_back() {
+    let list = floor();
+    assert_eq!(Table::build(&list, 4096).expect("room").save(), list);
+    assert_eq!(list.write(), FLOOR);
+    let routes: Vec<Route> = list.routes().collect();
+    assert_eq!(RouteList::from_routes(&routes), Ok(list));
+}
+
+#[test]
+fn the_empty_list_has_one_run_and_an_image_of_one_node() {
+    let list = RouteList::default();
+    assert_eq!(list.runs().len(), 1);
+    assert_eq!(list.write(), [1, 0, 0, 0, 0]);
+    let image = Image::build(&list, Stride::Four);
+    assert_eq!((image.node_count(), image.port_count()), (1, 16));
+    assert_eq!(image.lookup(Ipv4Addr::BROADCAST).port, None);
+}
+
+#[test]
+fn the_worst_list_is_built_at_every_stride() {
+    let worst: Vec<u32> = (0..4096).flat_map(|number| [number << 20 | 1, 32, 1]).collect();
+    let list = RouteList::from_words(worst).expect("a valid list");
+    for stride in [Stride::One, Stride::Two, Stride::Four] {
+        assert_eq!(Image::build(&list, stride).lookup(Ipv4Addr::new(0, 0, 0, 1)).port, Some(1));
+    }
+}
+
+#[test]
+fn a_refused_update_changes_nothing() {
+    let mut table = Table::build(&floor(), 3).expect("room for three routes");
+    let before = table.clone();
+    let new = Route::new(Ipv4Addr::new(192, 0, 2, 0), 24, 5).expect("a valid route");
+    assert_eq!(table.announce(new), Err(Refusal::NoRoom));
+    assert_eq!(table.withdraw(new.address(), new.length()), Err(Refusal::NotHeld));
+    assert_eq!(table.withdraw(new.address(), 33), Err(Refusal::LengthAbove32(Place::Whole)));
+    assert_eq!(table, before);
+}
+
+#[test]
+fn a_refusal_says_where_and_why() {
+    let text = |file: &[u8]| RouteList::read(file).expect_err("refused").to_string();
+    assert_eq!(text(&[1, 0]), "the file is shorter than the 5 bytes that every route file begins with (refusal 1)");
+    assert_eq!(text(&[2, 0, 0, 0, 0]), "this is no route file of version 1 (refusal 2)");
+    assert_eq!(
+        text(&[1, 0, 0, 0, 2, 0]),
+        "the size is not the stated one; the file or list may be cut off (refusal 3)"
+    );
+    assert_eq!(
+        text(&[1, 0, 0, 0, 5, 0, 0, 1, 8, 10]),
+        "route at byte 8: the route runs past the end of the file (refusal 3)"
+    );
+    let twice = [10 << 24, 8, 7, 10 << 24, 8, 7].to_vec();
+    assert_eq!(
+        RouteList::from_words(twice).expect_err("refused").to_string(),
+        "route 1: the route is not above the one before it; sort by address, then by length (refusal 7)"
+    );
+    assert_eq!(Stride::try_from(3).expect_err("refused").to_string(), "the stride is not 1, 2 or 4 (refusal 12)");
+}

@@ -3,6 +3,7 @@
 use crate::support::{agree, first_bits_of, list_of, table_of, Random, UNTOUCHED, UNTOUCHED_PORT};
 use reference::{image_build, image_lookup, table_announce, table_check, table_lookup, table_withdraw};
 use std::cmp::Reverse;
+use workload::{damage_image, damage_rows};
 
 /// Longer first, then the smaller value.
 type Rank = (u32, Reverse<u32>);
@@ -51,20 +52,6 @@ impl Walk<'_> {
     }
 }
 
-/// One word made another that could pass for it, or two rows exchanged.
-fn damage(rows: &mut [u32], random: &mut Random) {
-    let count = rows.len() as u32 / 5;
-    let [from, to] = [random.below(count) as usize, random.below(count) as usize];
-    let word = random.below(5) as usize;
-    match random.below(5) {
-        0 => (0..5).for_each(|word| rows.swap(5 * from + word, 5 * to + word)),
-        1 => (0..3).for_each(|word| rows.swap(5 * from + word, 5 * to + word)),
-        2 => rows[5 * to + word] = rows[5 * from + word],
-        3 => rows[5 * to + 3 + word % 2] = random.below(count + 1),
-        _ => rows[5 * to + word] = random.word() >> random.below(32),
-    }
-}
-
 #[test]
 fn good_order_agrees_with_a_second_check() {
     let (mut good, mut bad) = (0, 0);
@@ -73,7 +60,7 @@ fn good_order_agrees_with_a_second_check() {
         let mut held = random.held(12);
         held.insert((0, 0), 1);
         let (mut rows, n) = table_of(&list_of(&held));
-        (0..=random.below(2)).for_each(|_| damage(&mut rows, &mut random));
+        (0..=random.below(2)).for_each(|_| damage_rows(&mut rows, &mut random));
         let expected = Walk::good_order(&rows, n);
         assert_eq!(table_check(&rows, n).number, if expected { 0 } else { 11 }, "seed {seed}");
         if expected {
@@ -92,7 +79,7 @@ fn updates_of_a_damaged_table_are_refused_11_and_write_nothing() {
         let mut held = random.held(12);
         held.insert((0, 0), 1);
         let (mut rows, n) = table_of(&list_of(&held));
-        damage(&mut rows, &mut random);
+        damage_rows(&mut rows, &mut random);
         if Walk::good_order(&rows, n) {
             continue;
         }
@@ -112,7 +99,7 @@ fn a_lookup_in_damaged_rows_ends_with_at_most_33_read() {
         let mut held = random.held(30);
         held.insert((0, 0), 1);
         let (mut rows, n) = table_of(&list_of(&held));
-        (0..random.below(4)).for_each(|_| damage(&mut rows, &mut random));
+        (0..random.below(4)).for_each(|_| damage_rows(&mut rows, &mut random));
         for _ in 0..10 {
             let found = table_lookup(&rows, n, random.address(&held));
             let [place, port, rows_read] = found.answer;
@@ -132,12 +119,11 @@ fn a_lookup_in_a_damaged_image_ends_with_at_most_32_over_stride_read() {
         let (mut nodes, mut ports) = ([UNTOUCHED; 3 * 260], [UNTOUCHED_PORT; 4000]);
         let answer = image_build(stride, &list_of(&held), &mut nodes, &mut ports);
         let [_, node_count, port_count] = answer.answer;
-        let at = random.below(3 * node_count) as usize;
-        nodes[at] = random.word() >> random.below(32);
-        ports[random.below(port_count) as usize] = random.word() as u16;
+        let nodes = &mut nodes[..3 * node_count as usize];
+        let ports = &mut ports[..port_count as usize];
+        (0..=random.below(2)).for_each(|_| damage_image(nodes, ports, &mut random));
         for _ in 0..10 {
-            let lent = &nodes[..3 * node_count as usize];
-            let found = image_lookup(stride, lent, &ports[..port_count as usize], random.address(&held));
+            let found = image_lookup(stride, nodes, ports, random.address(&held));
             let [place, port, nodes_read] = found.answer;
             assert!([0, 11].contains(&found.number) && place == 0, "seed {seed}");
             assert!((1..=32 / stride).contains(&nodes_read), "seed {seed}");

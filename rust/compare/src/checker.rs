@@ -1,0 +1,200 @@
+//! Each call of the boundary, made on two libraries and compared.
+
+use crate::lent::{Lent, Memory};
+use crate::library::Library;
+use crate::tally::Tally;
+use reference::Answer;
+use std::fmt::{self, Debug};
+
+/// What a compared call gives where the two libraries agree.
+pub type Compared<T> = Result<T, Difference>;
+
+/// A call on which the two libraries differ.
+#[derive(Debug)]
+pub struct Difference {
+    call: &'static str,
+    arguments: String,
+    what: String,
+}
+
+impl fmt::Display for Difference {
+    fn fmt(&self, formatter: &mut fmt::Formatter) -> fmt::Result {
+        write!(formatter, "{}{}: {}", self.call, self.arguments, self.what)
+    }
+}
+
+impl std::error::Error for Difference {}
+
+/// Makes every call on the tried library and on the one that is right, each with its own copy of the memory.
+pub struct Checker<'a> {
+    tried: &'a Library,
+    right: &'a Library,
+    pub tally: Tally,
+}
+
+impl<'a> Checker<'a> {
+    pub fn new(tried: &'a Library, right: &'a Library) -> Checker<'a> {
+        Checker { tried, right, tally: Tally::default() }
+    }
+
+    /// The call with each of the arguments in turn, then the memory, guards included.
+    fn each<M: Memory, A: Debug, const N: usize>(
+        &mut self,
+        call: &'static str,
+        lent: M,
+        arguments: &[A],
+        make: impl Fn(&Library, &mut M, &A) -> Answer<N>,
+    ) -> Compared<(Vec<Answer<N>>, M)> {
+        let (mut tried_lent, mut right_lent) = (lent.clone(), lent);
+        let mut answers = Vec::with_capacity(arguments.len());
+        for argument in arguments {
+            let tried = make(self.tried, &mut tried_lent, argument);
+            let right = make(self.right, &mut right_lent, argument);
+            if tried != right {
+                let what = format!("answered {tried:?} and should {right:?}");
+                return Err(Difference { call, arguments: format!("{argument:?}"), what });
+            }
+            self.tally.add(call, tried.number);
+            answers.push(right);
+        }
+        if let Some(what) = tried_lent.difference(&right_lent) {
+            let arguments = arguments.last().map_or(String::new(), |last| format!("{last:?}"));
+            return Err(Difference { call, arguments, what });
+        }
+        Ok((answers, right_lent))
+    }
+
+    /// One call; its argument is only what a difference prints.
+    fn one<M: Memory, A: Debug, const N: usize>(
+        &mut self,
+        call: &'static str,
+        lent: M,
+        argument: A,
+        make: impl Fn(&Library, &mut M) -> Answer<N>,
+    ) -> Compared<(Answer<N>, M)> {
+        let (answers, lent) = self.each(call, lent, &[argument], |library, lent, _| make(library, lent))?;
+        Ok((answers[0], lent))
+    }
+
+    pub fn file_read(&mut self, file: &[u8], room: usize) -> Compared<(Answer<2>, Vec<u32>)> {
+        let lent = (Lent::of(file), Lent::room(room));
+        let (answer, (_, list)) = self.one("file_read", lent, (file, room), |library, (file, list)| {
+            (library.file_read)(file.all(), list.all_mut())
+        })?;
+        Ok((answer, list.all().to_vec()))
+    }
+
+    pub fn file_write(&mut self, list: &[u32], room: usize) -> Compared<(Answer<2>, Vec<u8>)> {
+        let lent = (Lent::of(list), Lent::room(room));
+        let (answer, (_, file)) = self.one("file_write", lent, (list, room), |library, (list, file)| {
+            (library.file_write)(list.all(), file.all_mut())
+        })?;
+        Ok((answer, file.all().to_vec()))
+    }
+
+    pub fn list_check(&mut self, list: &[u32]) -> Compared<Answer<1>> {
+        let checked = self.one("list_check", Lent::of(list), (list,), |library, list| (library.list_check)(list.all()));
+        Ok(checked?.0)
+    }
+
+    pub fn list_scan(&mut self, list: &[u32], addresses: &[u32]) -> Compared<()> {
+        self.each("list_scan", Lent::of(list), addresses, |library, list, address| {
+            (library.list_scan)(list.all(), *address)
+        })?;
+        Ok(())
+    }
+
+    pub fn table_check(&mut self, rows: &[u32], n: u32) -> Compared<Answer<1>> {
+        let checked =
+            self.one("table_check", Lent::of(rows), (n,), |library, rows| (library.table_check)(rows.all(), n));
+        Ok(checked?.0)
+    }
+
+    pub fn table_lookup(&mut self, rows: &[u32], n: u32, addresses: &[u32]) -> Compared<Vec<Answer<3>>> {
+        let found = self.each("table_lookup", Lent::of(rows), addresses, |library, rows, address| {
+            (library.table_lookup)(rows.all(), n, *address)
+        });
+        Ok(found?.0)
+    }
+
+    /// The rows are afterwards what the right library leaves.
+    pub fn table_announce(&mut self, rows: &mut [u32], n: u32, route: [u32; 3]) -> Compared<Answer<2>> {
+        let [value, length, port] = route;
+        let (answer, lent) = self.one("table_announce", Lent::of(rows), (n, route), |library, rows| {
+            (library.table_announce)(rows.all_mut(), n, value, length, port)
+        })?;
+        rows.copy_from_slice(lent.all());
+        Ok(answer)
+    }
+
+    /// The rows are afterwards what the right library leaves.
+    pub fn table_withdraw(&mut self, rows: &mut [u32], n: u32, prefix: (u32, u32)) -> Compared<Answer<2>> {
+        let (value, length) = prefix;
+        let (answer, lent) = self.one("table_withdraw", Lent::of(rows), (n, prefix), |library, rows| {
+            (library.table_withdraw)(rows.all_mut(), n, value, length)
+        })?;
+        rows.copy_from_slice(lent.all());
+        Ok(answer)
+    }
+
+    pub fn table_build(&mut self, list: &[u32], room: usize) -> Compared<(Answer<2>, Vec<u32>)> {
+        let lent = (Lent::of(list), Lent::room(room));
+        let (answer, (_, rows)) = self.one("table_build", lent, (list, room), |library, (list, rows)| {
+            (library.table_build)(list.all(), rows.all_mut())
+        })?;
+        Ok((answer, rows.all().to_vec()))
+    }
+
+    pub fn table_save(&mut self, rows: &[u32], n: u32, room: usize) -> Compared<Answer<2>> {
+        let lent = (Lent::of(rows), Lent::room(room));
+        let saved = self.one("table_save", lent, (n, room), |library, (rows, list)| {
+            (library.table_save)(rows.all(), n, list.all_mut())
+        });
+        Ok(saved?.0)
+    }
+
+    /// Room is words of nodes, then ports.
+    pub fn image_build(
+        &mut self,
+        stride: u32,
+        list: &[u32],
+        room: (usize, usize),
+    ) -> Compared<(Answer<3>, Vec<u32>, Vec<u16>)> {
+        let lent = (Lent::of(list), (Lent::room(room.0), Lent::room(room.1)));
+        let (answer, (_, (nodes, ports))) =
+            self.one("image_build", lent, (stride, list, room), |library, (list, (nodes, ports))| {
+                (library.image_build)(stride, list.all(), nodes.all_mut(), ports.all_mut())
+            })?;
+        Ok((answer, nodes.all().to_vec(), ports.all().to_vec()))
+    }
+
+    /// The general lookup, and at strides 1, 2 and 4 also the one whose stride is a constant.
+    pub fn image_lookup(&mut self, stride: u32, nodes: &[u32], ports: &[u16], addresses: &[u32]) -> Compared<()> {
+        let lent = (Lent::of(nodes), Lent::of(ports));
+        self.each("image_lookup", lent.clone(), addresses, |library, (nodes, ports), address| {
+            (library.image_lookup)(stride, nodes.all(), ports.all(), *address)
+        })?;
+        if [1, 2, 4].contains(&stride) {
+            self.each("image_lookup_s", lent, addresses, |library, (nodes, ports), address| {
+                (library.image_lookup_constant)(stride, nodes.all(), ports.all(), *address)
+            })?;
+        }
+        Ok(())
+    }
+
+    pub fn list_runs(&mut self, list: &[u32], room: usize) -> Compared<(Answer<2>, Vec<u32>)> {
+        let lent = (Lent::of(list), Lent::room(room));
+        let (answer, (_, runs)) = self.one("list_runs", lent, (list, room), |library, (list, runs)| {
+            (library.list_runs)(list.all(), runs.all_mut())
+        })?;
+        Ok((answer, runs.all().to_vec()))
+    }
+
+    pub fn table_runs(&mut self, rows: &[u32], n: u32, room: usize) -> Compared<Answer<2>> {
+        let lent = (Lent::of(rows), Lent::room(room));
+        let listed = self.one("table_runs", lent, (n, room), |library, (rows, runs)| {
+            (library.table_runs)(rows.all(), n, runs.all_mut())
+        });
+        Ok(listed?.0)
+    }
+}

@@ -1,0 +1,61 @@
+//! What is fed to the two libraries: each scenario draws its inputs from the random numbers given, so a seed names it.
+
+mod files;
+mod histories;
+mod images;
+mod lists;
+mod tables;
+
+pub use files::{damaged_files, noise_files, valid_files};
+pub use histories::history;
+pub use images::{damaged_images, valid_images};
+pub use lists::{damaged_lists, valid_lists};
+pub use tables::{damaged_tables, valid_tables, wrong_arguments};
+
+use crate::checker::{Checker, Compared};
+use workload::{Held, Kind, Random};
+
+/// A scenario on sets of at most that many routes.
+pub type Scenario = fn(&mut Checker, &mut Random, usize) -> Compared<()>;
+
+/// Every scenario, with its name.
+pub const ALL: [(&str, Scenario); 11] = [
+    ("valid files", valid_files),
+    ("damaged files", damaged_files),
+    ("noise files", noise_files),
+    ("valid lists", valid_lists),
+    ("damaged lists", damaged_lists),
+    ("valid tables", valid_tables),
+    ("damaged tables", damaged_tables),
+    ("wrong arguments", wrong_arguments),
+    ("valid images", valid_images),
+    ("damaged images", damaged_images),
+    ("history", |checker, random, most| history(checker, random, 1 + most / 2, 40)),
+];
+
+/// A set of any shape with at most that many routes; tiny ones are as likely as large ones.
+fn any_set(random: &mut Random, most: usize) -> Held {
+    let count = match random.below(3) {
+        0 => random.index(4).min(most),
+        1 => most,
+        _ => random.index(most + 1),
+    };
+    random.pick(&Kind::ALL).routes(random, count)
+}
+
+/// Addresses at the ends of routes and anywhere.
+fn addresses(random: &mut Random, held: &Held, count: usize) -> Vec<u32> {
+    let mut addresses = vec![0, u32::MAX];
+    addresses.extend((0..count).map(|_| random.address(held)));
+    addresses
+}
+
+/// Exactly enough room, one element less, one more, and none.
+fn rooms(exact: usize) -> [usize; 4] {
+    [exact, exact.saturating_sub(1), exact + 1, 0]
+}
+
+/// Damages once, twice or three times.
+fn some_damage(random: &mut Random, mut damage: impl FnMut(&mut Random)) {
+    (0..=random.below(3)).for_each(|_| damage(random));
+}

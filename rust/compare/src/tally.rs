@@ -1,0 +1,45 @@
+//! How many calls of each kind were compared, and which numbers they answered.
+
+use std::collections::BTreeMap;
+use std::fmt;
+
+/// Done, and the refusals 1 to 13.
+const NUMBERS: usize = 14;
+
+/// Counts by call and by number answered.
+#[derive(Default)]
+pub struct Tally {
+    calls: BTreeMap<&'static str, [u64; NUMBERS]>,
+}
+
+impl Tally {
+    pub fn add(&mut self, call: &'static str, number: u32) {
+        self.calls.entry(call).or_default()[number as usize] += 1;
+    }
+
+    /// How often this number was answered, by any call.
+    pub fn of_number(&self, number: usize) -> u64 {
+        self.calls.values().map(|numbers| numbers[number]).sum()
+    }
+
+    pub fn total(&self) -> u64 {
+        (0..NUMBERS).map(|number| self.of_number(number)).sum()
+    }
+}
+
+/// A line for each call: how many, and how many answered each number that was met.
+impl fmt::Display for Tally {
+    fn fmt(&self, formatter: &mut fmt::Formatter) -> fmt::Result {
+        for (call, numbers) in &self.calls {
+            write!(formatter, "{call:<16} {:>10} calls:", numbers.iter().sum::<u64>())?;
+            for (number, count) in numbers.iter().enumerate().filter(|(_, count)| **count > 0) {
+                match number {
+                    0 => write!(formatter, " done {count}")?,
+                    _ => write!(formatter, ", refused {number}: {count}")?,
+                }
+            }
+            writeln!(formatter)?;
+        }
+        Ok(())
+    }
+}

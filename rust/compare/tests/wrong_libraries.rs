@@ -1,0 +1,111 @@
+//! The comparison itself: libraries that are wrong in one call are told from the reference.
+
+use compare::{scenarios, Checker, Compared, Library, REFERENCE};
+use reference::Answer;
+use workload::Random;
+
+/// The first difference that the scenarios find within a few seeds.
+fn difference(wrong: &Library) -> Option<String> {
+    let mut checker = Checker::new(wrong, &REFERENCE);
+    let run = |seed: u64, checker: &mut Checker| -> Compared<()> {
+        scenarios::ALL.iter().try_for_each(|(_, scenario)| scenario(checker, &mut Random::new(seed), 12))
+    };
+    (0..40).find_map(|seed| run(seed, &mut checker).err()).map(|difference| difference.to_string())
+}
+
+fn assert_told(call: &str, wrong: Library) {
+    let difference = difference(&wrong).unwrap_or_else(|| panic!("a wrong {call} was not told"));
+    assert!(difference.starts_with(call), "{difference}");
+}
+
+#[test]
+fn the_reference_does_not_differ_from_itself() {
+    assert_eq!(difference(&REFERENCE), None);
+}
+
+#[test]
+fn a_word_past_the_output_is_told() {
+    assert_told(
+        "file_read",
+        Library {
+            file_read: |file, list| {
+                let answer = reference::file_read(file, list);
+                let end = 3 * answer.answer[1] as usize;
+                if answer.number == 0 && end < list.len() {
+                    list[end] = 0;
+                }
+                answer
+            },
+            ..REFERENCE
+        },
+    );
+}
+
+#[test]
+fn a_refusal_that_writes_is_told() {
+    assert_told(
+        "table_build",
+        Library {
+            table_build: |list, rows| {
+                let answer = reference::table_build(list, rows);
+                if answer.number == 9 && !rows.is_empty() {
+                    rows[0] = 0;
+                }
+                answer
+            },
+            ..REFERENCE
+        },
+    );
+}
+
+#[test]
+fn a_wrong_number_of_rows_read_is_told() {
+    assert_told(
+        "table_lookup",
+        Library {
+            table_lookup: |rows, n, address| {
+                let Answer { number, answer: [place, port, read] } = reference::table_lookup(rows, n, address);
+                Answer { number, answer: [place, port, read.min(3)] }
+            },
+            ..REFERENCE
+        },
+    );
+}
+
+#[test]
+fn a_place_counted_from_1_is_told() {
+    assert_told(
+        "list_check",
+        Library {
+            list_check: |list| {
+                let Answer { number, answer: [place] } = reference::list_check(list);
+                Answer { number, answer: [place + u32::from(number == 7)] }
+            },
+            ..REFERENCE
+        },
+    );
+}
+
+#[test]
+fn an_announcement_that_is_lost_is_told() {
+    assert_told(
+        "table_announce",
+        Library {
+            table_announce: |rows, n, value, length, port| {
+                let before = rows.to_vec();
+                let answer = reference::table_announce(rows, n, value, length, port);
+                if answer.answer[1] == n {
+                    rows.copy_from_slice(&before);
+                }
+                answer
+            },
+            ..REFERENCE
+        },
+    );
+}
+
+#[test]
+fn a_constant_stride_that_walks_another_is_told() {
+    let wrong = |_, nodes: &[u32], ports: &[u16], address| reference::image_lookup(4, nodes, ports, address);
+    assert_told("image_lookup_s", Library { image_lookup_constant: wrong, ..REFERENCE });
+}

@@ -1,0 +1,87 @@
+//! `answer` is lent memory too: every call writes all of it and nothing beside it, done or refused.
+
+use maftehon::ffi::*;
+
+const PATTERN: u32 = 0xDEAD_BEEF;
+const GUARD: usize = 7;
+
+/// Makes the call with `answer` in the middle of a pattern, and twice, so that no word of it can be left out unseen.
+fn assert_answers<const N: usize>(number: u32, answer: [u32; N], call: impl Fn(*mut u32) -> u32) {
+    for pattern in [PATTERN, !PATTERN] {
+        let mut lent = [pattern; 3 * GUARD];
+        assert_eq!(call(lent[GUARD..].as_mut_ptr()), number);
+        let mut expected = [pattern; 3 * GUARD];
+        expected[GUARD..GUARD + N].copy_from_slice(&answer);
+        assert_eq!(lent, expected);
+    }
+}
+
+/// One route, 10.0.0.0/8 to port 7, as a list, a row, a file, and an image of stride 4 with its two nodes.
+const LIST: [u32; 3] = [10 << 24, 8, 7];
+const ROW: [u32; 5] = [10 << 24, 8, 7, 0, 0];
+const FILE: [u8; 9] = [1, 0, 0, 0, 4, 8, 10, 0, 7];
+
+#[test]
+fn calls_on_files_and_lists_write_their_answer_alone() {
+    let (list, file) = (LIST.as_ptr(), FILE.as_ptr());
+    let (mut words, mut bytes) = ([0; 30], [0; 30]);
+    let (words, bytes) = (words.as_mut_ptr(), bytes.as_mut_ptr());
+    // SAFETY: every pointer is valid for the size that goes with it, and `answer` overlaps none of them.
+    unsafe {
+        assert_answers(0, [0, 1], |answer| mft_file_read(file, 9, words, 30, answer));
+        assert_answers(3, [0, 0], |answer| mft_file_read(file, 8, words, 30, answer));
+        assert_answers(0, [0, 9], |answer| mft_file_write(list, 3, bytes, 30, answer));
+        assert_answers(9, [0, 0], |answer| mft_file_write(list, 3, bytes, 8, answer));
+        assert_answers(0, [0], |answer| mft_list_check(list, 3, answer));
+        assert_answers(3, [0], |answer| mft_list_check(list, 2, answer));
+        assert_answers(0, [0, 7], |answer| mft_list_scan(list, 3, 10 << 24, answer));
+        assert_answers(3, [0, 0], |answer| mft_list_scan(list, 2, 10 << 24, answer));
+        assert_answers(0, [0, 3], |answer| mft_list_runs(list, 3, words, 30, answer));
+        assert_answers(9, [0, 0], |answer| mft_list_runs(list, 3, words, 8, answer));
+    }
+}
+
+#[test]
+fn calls_on_tables_write_their_answer_alone() {
+    let (list, row) = (LIST.as_ptr(), ROW.as_ptr());
+    let mut words = [0; 30];
+    let words = words.as_mut_ptr();
+    // SAFETY: every pointer is valid for the size that goes with it, and `answer` overlaps none of them.
+    unsafe {
+        assert_answers(0, [0], |answer| mft_table_check(row, 5, 1, answer));
+        assert_answers(11, [0], |answer| mft_table_check(row, 5, 2, answer));
+        assert_answers(0, [0, 7, 1], |answer| mft_table_lookup(row, 5, 1, 10 << 24, answer));
+        assert_answers(11, [0, 0, 0], |answer| mft_table_lookup(row, 5, 2, 10 << 24, answer));
+        assert_answers(0, [0, 1], |answer| mft_table_build(list, 3, words, 5, answer));
+        assert_answers(9, [0, 0], |answer| mft_table_build(list, 3, words, 4, answer));
+        assert_answers(0, [0, 1], |answer| mft_table_announce(words, 5, 1, 10 << 24, 8, 9, answer));
+        assert_answers(6, [0, 1], |answer| mft_table_announce(words, 5, 1, 10 << 24, 8, 0, answer));
+        assert_answers(10, [0, 1], |answer| mft_table_withdraw(words, 5, 1, 0, 0, answer));
+        assert_answers(0, [0, 1], |answer| mft_table_save(row, 5, 1, words, 3, answer));
+        assert_answers(9, [0, 0], |answer| mft_table_save(row, 5, 1, words, 2, answer));
+        assert_answers(0, [0, 3], |answer| mft_table_runs(row, 5, 1, words, 9, answer));
+        assert_answers(9, [0, 0], |answer| mft_table_runs(row, 5, 1, words, 8, answer));
+        assert_answers(0, [0, 0], |answer| {
+            mft_table_build(list, 3, words, 5, answer);
+            mft_table_withdraw(words, 5, 1, 10 << 24, 8, answer)
+        });
+    }
+}
+
+#[test]
+fn calls_on_images_write_their_answer_alone() {
+    let list = LIST.as_ptr();
+    let (mut nodes, mut ports) = ([0; 30], [0; 60]);
+    let (nodes, ports) = (nodes.as_mut_ptr(), ports.as_mut_ptr());
+    // SAFETY: every pointer is valid for the size that goes with it, and `answer` overlaps none of them.
+    unsafe {
+        assert_answers(9, [0, 0, 0], |answer| mft_image_build(4, list, 3, nodes, 5, ports, 60, answer));
+        assert_answers(0, [0, 2, 31], |answer| mft_image_build(4, list, 3, nodes, 6, ports, 31, answer));
+        assert_answers(0, [0, 7, 2], |answer| mft_image_lookup(4, nodes, 6, ports, 31, 10 << 24, answer));
+        assert_answers(12, [0, 0, 0], |answer| mft_image_lookup(3, nodes, 6, ports, 31, 10 << 24, answer));
+        assert_answers(0, [0, 7, 2], |answer| mft_image_lookup_4(nodes, 6, ports, 31, 10 << 24, answer));
+        assert_answers(11, [0, 0, 1], |answer| mft_image_lookup_4(nodes, 5, ports, 31, 10 << 24, answer));
+        assert_answers(11, [0, 0, 0], |answer| mft_image_lookup_1(nodes, 0, ports, 31, 10 << 24, answer));
+        assert_answers(11, [0, 0, 0], |answer| mft_image_lookup_2(nodes, 0, ports, 31, 10 << 24, answer));
+    }
+}

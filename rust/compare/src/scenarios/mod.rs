@@ -33,6 +33,15 @@ pub const ALL: [(&str, Scenario); 11] = [
     ("history", |checker, random, most| history(checker, random, 1 + most / 2, 40)),
 ];
 
+/// Sizes of sets, small ones more often: they meet more cases in the same time.
+const SIZES: [usize; 8] = [3, 3, 10, 10, 30, 30, 200, 4096];
+
+/// One of the scenarios, at one of the sizes.
+pub fn any(checker: &mut Checker, random: &mut Random) -> Compared<()> {
+    let ((_, scenario), most) = (random.pick(&ALL), random.pick(&SIZES));
+    scenario(checker, random, most)
+}
+
 /// A set of any shape with at most that many routes; tiny ones are as likely as large ones.
 fn any_set(random: &mut Random, most: usize) -> Held {
     let count = match random.below(3) {

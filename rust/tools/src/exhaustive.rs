@@ -1,0 +1,138 @@
+//! Both tries against the run listing, over the whole address space or a sample of it.
+
+use maftehon::calls::{self, Reply};
+use std::ops::Range;
+use std::sync::atomic::{AtomicU64, Ordering};
+use workload::list_of;
+
+const RUN_WORDS: usize = 3;
+const SPACE: u64 = 1 << 32;
+/// Addresses that a thread takes at a time.
+const CHUNK: u64 = 1 << 20;
+const THREADS: usize = 2;
+
+/// First address, last address, port.
+type Run = [u32; RUN_WORDS];
+
+/// What answers lookups: an image, or a table.
+pub enum Structure {
+    Image { stride: u32, nodes: Vec<u32>, ports: Vec<u16> },
+    Table { rows: Vec<u32>, n: u32 },
+}
+
+impl Structure {
+    /// The images at strides 1, 2 and 4, and the table, all built by the proved library.
+    pub fn all_of(list: &[u32]) -> Vec<Structure> {
+        let mut all: Vec<Structure> = [1, 2, 4].map(|stride| Structure::image(list, stride)).into();
+        let mut rows = vec![0; list.len() / 3 * 5];
+        let built = calls::table_build(list, &mut rows);
+        assert_eq!(built.number, 0, "a valid list is built");
+        all.push(Structure::Table { rows, n: built.answer[1] });
+        all
+    }
+
+    fn image(list: &[u32], stride: u32) -> Structure {
+        let nodes_most = 1 + list.len() / 3 * (32 / stride as usize - 1);
+        let (mut nodes, mut ports) = (vec![0; 3 * nodes_most], vec![0; nodes_most << stride]);
+        let built = calls::image_build(stride, list, &mut nodes, &mut ports);
+        assert_eq!(built.number, 0, "a valid list is built");
+        nodes.truncate(3 * built.answer[1] as usize);
+        ports.truncate(built.answer[2] as usize);
+        Structure::Image { stride, nodes, ports }
+    }
+
+    pub fn name(&self) -> String {
+        match self {
+            Structure::Image { stride, .. } => format!("image, stride {stride}"),
+            Structure::Table { .. } => "table".into(),
+        }
+    }
+
+    /// The most nodes or rows that a lookup may read.
+    fn read_last(&self) -> u32 {
+        match self {
+            Structure::Image { stride, .. } => 32 / stride,
+            Structure::Table { .. } => 33,
+        }
+    }
+
+    fn lookup(&self, address: u32) -> Reply<3> {
+        match self {
+            Structure::Image { stride: 1, nodes, ports } => calls::image_lookup_1(nodes, ports, address),
+            Structure::Image { stride: 2, nodes, ports } => calls::image_lookup_2(nodes, ports, address),
+            Structure::Image { nodes, ports, .. } => calls::image_lookup_4(nodes, ports, address),
+            Structure::Table { rows, n } => calls::table_lookup(rows, *n, address),
+        }
+    }
+
+    /// Whether the lookup is done, finds this port, and reads as much as it may.
+    fn finds(&self, address: u32, port: u32) -> bool {
+        let Reply { number, answer: [place, found, read] } = self.lookup(address);
+        number == 0 && place == 0 && found == port && (1..=self.read_last()).contains(&read)
+    }
+
+    /// The first address of the range, by runs in order, whose lookup differs from its run.
+    fn difference_in(&self, runs: &[Run], range: Range<u64>) -> Option<u32> {
+        let first_run = runs.partition_point(|run| u64::from(run[1]) < range.start);
+        for [first, last, port] in &runs[first_run..] {
+            let from = range.start.max(u64::from(*first));
+            let to = range.end.min(u64::from(*last) + 1);
+            if from >= to {
+                return None;
+            }
+            if let Some(address) = (from..to).find(|address| !self.finds(*address as u32, *port)) {
+                return Some(address as u32);
+            }
+        }
+        None
+    }
+
+    /// An address of the whole space whose lookup differs from its run. Two threads share the chunks.
+    pub fn difference(&self, runs: &[Run]) -> Option<u32> {
+        let next = AtomicU64::new(0);
+        let work = || loop {
+            let start = next.fetch_add(CHUNK, Ordering::Relaxed);
+            if start >= SPACE {
+                return None;
+            }
+            if let Some(address) = self.difference_in(runs, start..start + CHUNK) {
+                return Some(address);
+            }
+        };
+        std::thread::scope(|scope| {
+            let threads = [(); THREADS].map(|()| scope.spawn(work));
+            threads.into_iter().find_map(|thread| thread.join().expect("a thread ends"))
+        })
+    }
+
+    /// As [`Structure::difference`], on the addresses of a sample.
+    pub fn difference_in_sample(&self, runs: &[Run], sample: &[u32]) -> Option<u32> {
+        let single = |address: u32| self.difference_in(runs, u64::from(address)..u64::from(address) + 1);
+        sample.iter().find_map(|address| single(*address))
+    }
+}
+
+/// The runs of a list by the proved library, which are those of the reference.
+pub fn runs_of(list: &[u32]) -> Vec<Run> {
+    let room = RUN_WORDS * (2 * list.len() / 3 + 1);
+    let (mut runs, mut expected) = (vec![0; room], vec![0; room]);
+    let listed = calls::list_runs(list, &mut runs);
+    let right = reference::list_runs(list, &mut expected);
+    assert_eq!((listed.number, listed.answer, &runs), (right.number, right.answer, &expected));
+    runs.truncate(RUN_WORDS * listed.answer[1] as usize);
+    runs.chunks(RUN_WORDS).map(|run| [run[0], run[1], run[2]]).collect()
+}
+
+/// Every address next to an end of a run, and every `step`-th address.
+pub fn sample_of(runs: &[Run], step: u32) -> Vec<u32> {
+    let near = |end: u32| [end.wrapping_sub(1), end, end.wrapping_add(1)];
+    let ends = runs.iter().flat_map(|run| [run[0], run[1]]).flat_map(near);
+    ends.chain((0..=u32::MAX).step_by(step as usize)).collect()
+}
+
+/// The set of a shape as a list, and its runs.
+pub fn list_and_runs(kind: workload::Kind) -> (Vec<u32>, Vec<Run>) {
+    let list = list_of(&crate::full_set(kind));
+    let runs = runs_of(&list);
+    (list, runs)
+}

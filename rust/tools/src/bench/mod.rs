@@ -1,1 +1,31 @@
-//! stub
+//! Measurement: the proved library, plain Rust and the reference on the same work, in turns, and medians of the rounds.
+
+mod chart;
+mod lists;
+mod lookups;
+mod race;
+mod report;
+mod subject;
+mod updates;
+
+pub use chart::chart;
+pub use race::Outcome;
+pub use report::report;
+
+use subject::Subject;
+use workload::Kind;
+
+/// The outcomes of one set of routes.
+pub struct Measured {
+    pub set: &'static str,
+    pub outcomes: Vec<Outcome>,
+}
+
+/// Runs every race on the set of this shape.
+pub fn measure(kind: Kind, rounds: usize) -> Measured {
+    let subject = Subject::new(kind);
+    let mut races = lookups::races(&subject);
+    races.extend(lists::races(&subject));
+    races.extend(updates::races(&subject));
+    Measured { set: kind.name(), outcomes: race::run(races, rounds) }
+}

@@ -1,0 +1,75 @@
+//! Lookups: every structure against the plain trie, and the image at stride 4 against a plain walk of itself.
+
+use super::race::{Race, Runner};
+use super::subject::Subject;
+use crate::plain_walk;
+use maftehon::calls::{self, Reply};
+
+const STRIDES: [u32; 3] = [1, 2, 4];
+
+pub fn races(subject: &Subject) -> Vec<Race<'_>> {
+    vec![
+        image("image lookup, stride 1", subject, 0, calls::image_lookup_1),
+        image("image lookup, stride 2", subject, 1, calls::image_lookup_2),
+        image("image lookup, stride 4", subject, 2, calls::image_lookup_4),
+        general("the same by the general call, stride 1", subject, 0),
+        general("the same by the general call, stride 2", subject, 1),
+        general("the same by the general call, stride 4", subject, 2),
+        table(subject),
+        walk(subject),
+    ]
+}
+
+/// A race of lookups of all the addresses, one after the other, which the plain trie takes part in.
+fn against_trie<'a>(
+    what: &'static str,
+    subject: &'a Subject,
+    proved: impl Fn(u32) -> Reply<3> + 'a,
+    reference: impl Fn(u32) -> reference::Answer<3> + 'a,
+) -> Race<'a> {
+    let addresses = &subject.addresses;
+    Race::new(what)
+        .runner(Runner::Proved, addresses.len(), move |number| proved(addresses[number]).answer[1])
+        .runner(Runner::Plain, addresses.len(), move |number| subject.trie.lookup(addresses[number]))
+        .runner(Runner::Reference, addresses.len(), move |number| reference(addresses[number]).answer[1])
+}
+
+fn image<'a>(
+    what: &'static str,
+    subject: &'a Subject,
+    index: usize,
+    lookup: impl Fn(&[u32], &[u16], u32) -> Reply<3> + 'a,
+) -> Race<'a> {
+    let (nodes, ports) = &subject.images[index];
+    against_trie(
+        what,
+        subject,
+        move |address| lookup(nodes, ports, address),
+        move |address| reference::image_lookup(STRIDES[index], nodes, ports, address),
+    )
+}
+
+fn general<'a>(what: &'static str, subject: &'a Subject, index: usize) -> Race<'a> {
+    let lookup =
+        move |nodes: &[u32], ports: &[u16], address| calls::image_lookup(STRIDES[index], nodes, ports, address);
+    image(what, subject, index, lookup)
+}
+
+fn table(subject: &Subject) -> Race<'_> {
+    let Subject { rows, n, .. } = subject;
+    against_trie(
+        "table lookup",
+        subject,
+        |address| calls::table_lookup(rows, *n, address),
+        |address| reference::table_lookup(rows, *n, address),
+    )
+}
+
+fn walk(subject: &Subject) -> Race<'_> {
+    let ((nodes, ports), addresses) = (&subject.images[2], &subject.addresses);
+    Race::new("image lookup, stride 4, and a plain walk of the same image")
+        .runner(Runner::Proved, addresses.len(), |number| {
+            calls::image_lookup_4(nodes, ports, addresses[number]).answer[1]
+        })
+        .runner(Runner::Plain, addresses.len(), |number| plain_walk::lookup_4(nodes, ports, addresses[number]).1)
+}

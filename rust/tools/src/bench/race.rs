@@ -1,0 +1,106 @@
+//! A race: several runners at the same work, each timed in every round, so that a busy moment hits them alike.
+
+use std::hint::black_box;
+use std::time::{Duration, Instant};
+
+/// Who does the work.
+#[derive(Clone, Copy, PartialEq, Eq, Debug)]
+pub enum Runner {
+    Proved,
+    Plain,
+    Reference,
+}
+
+/// A runner that has had this many turns and this much time rests: the reference is slow, and its median is known.
+const TURNS_FIRST: usize = 7;
+const TIME_LAST: Duration = Duration::from_millis(400);
+
+struct Lane<'a> {
+    runner: Runner,
+    operations: usize,
+    turn: Box<dyn FnMut() -> Duration + 'a>,
+    times: Vec<Duration>,
+}
+
+impl Lane<'_> {
+    fn take_turn(&mut self) {
+        let rests = self.times.len() >= TURNS_FIRST && self.times.iter().sum::<Duration>() > TIME_LAST;
+        if !rests {
+            self.times.push((self.turn)());
+        }
+    }
+
+    /// Nanoseconds for one operation in the middle one of the turns.
+    fn median(&mut self) -> f64 {
+        self.times.sort();
+        self.times[self.times.len() / 2].as_nanos() as f64 / self.operations as f64
+    }
+}
+
+/// The same work for every lane.
+pub struct Race<'a> {
+    what: &'static str,
+    lanes: Vec<Lane<'a>>,
+}
+
+impl<'a> Race<'a> {
+    pub fn new(what: &'static str) -> Race<'a> {
+        Race { what, lanes: Vec::new() }
+    }
+
+    /// A runner whose turn is that many operations, after as many that are not timed, so that what they read is
+    /// in the caches whoever had the turn before.
+    pub fn runner<T>(self, runner: Runner, operations: usize, mut operation: impl FnMut(usize) -> T + 'a) -> Race<'a> {
+        let mut operate = move || {
+            for number in 0..operations {
+                black_box(operation(number));
+            }
+        };
+        let turn = move || {
+            operate();
+            timed(&mut operate)
+        };
+        self.timed_runner(runner, operations, turn)
+    }
+
+    /// A runner that says itself how long its operations took, because its turn has more to do than them.
+    pub fn timed_runner(mut self, runner: Runner, operations: usize, turn: impl FnMut() -> Duration + 'a) -> Race<'a> {
+        self.lanes.push(Lane { runner, operations, turn: Box::new(turn), times: Vec::new() });
+        self
+    }
+}
+
+pub fn timed(work: impl FnOnce()) -> Duration {
+    let start = Instant::now();
+    work();
+    start.elapsed()
+}
+
+/// What a race gave: nanoseconds for one operation, for each runner that took part.
+pub struct Outcome {
+    pub what: &'static str,
+    medians: Vec<(Runner, f64)>,
+}
+
+impl Outcome {
+    pub fn of(&self, runner: Runner) -> Option<f64> {
+        self.medians.iter().find(|(other, _)| *other == runner).map(|(_, nanoseconds)| *nanoseconds)
+    }
+
+    /// How many times as long the proved library takes as this runner.
+    pub fn ratio(&self, runner: Runner) -> Option<f64> {
+        Some(self.of(Runner::Proved)? / self.of(runner)?)
+    }
+}
+
+/// Every lane of every race has its turn in each round.
+pub fn run(mut races: Vec<Race>, rounds: usize) -> Vec<Outcome> {
+    for _ in 0..rounds {
+        races.iter_mut().flat_map(|race| &mut race.lanes).for_each(Lane::take_turn);
+    }
+    let outcome = |race: &mut Race| Outcome {
+        what: race.what,
+        medians: race.lanes.iter_mut().map(|lane| (lane.runner, lane.median())).collect(),
+    };
+    races.iter_mut().map(outcome).collect()
+}

@@ -1,0 +1,49 @@
+//! What the races work on: one set of 4,096 routes, everything that is built of it, and the addresses asked for.
+
+use crate::exhaustive::Structure;
+use crate::plain_trie::PlainTrie;
+use workload::{list_of, Held, Kind, Random};
+
+/// How many addresses a turn looks up.
+const ADDRESSES: usize = 1 << 14;
+
+pub struct Subject {
+    pub held: Held,
+    pub list: Vec<u32>,
+    pub rows: Vec<u32>,
+    pub n: u32,
+    /// At strides 1, 2 and 4.
+    pub images: [(Vec<u32>, Vec<u16>); 3],
+    pub trie: PlainTrie,
+    pub addresses: Vec<u32>,
+}
+
+impl Subject {
+    pub fn new(kind: Kind) -> Subject {
+        let held = crate::full_set(kind);
+        let list = list_of(&held);
+        let (mut images, mut table) = (Vec::new(), None);
+        for structure in Structure::all_of(&list) {
+            match structure {
+                Structure::Image { nodes, ports, .. } => images.push((nodes, ports)),
+                Structure::Table { rows, n } => table = Some((rows, n)),
+            }
+        }
+        let (rows, n) = table.expect("a table is among the structures");
+        let images = images.try_into().expect("an image for each of three strides");
+        let (trie, addresses) = (PlainTrie::build(&list), addresses(&list));
+        Subject { held, list, rows, n, images, trie, addresses }
+    }
+}
+
+/// Half of them inside a route, the others anywhere.
+fn addresses(list: &[u32]) -> Vec<u32> {
+    let mut random = Random::new(1);
+    let mut address = |number: usize| {
+        let any = random.word();
+        let route = 3 * random.index(list.len() / 3);
+        let host_bits = u32::MAX.checked_shr(list[route + 1]).unwrap_or(0);
+        [list[route] | (any & host_bits), any][number % 2]
+    };
+    (0..ADDRESSES).map(&mut address).collect()
+}

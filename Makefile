@@ -1,13 +1,16 @@
 # Maftehon: `make test` proves and tests everything, `make help` lists the rest.
 
-.PHONY: help test prove lib runs layout
+.PHONY: help test prove lib fuzz exhaustive bench runs layout
 
 help:
-	@echo "make test    prove every crate, try every must-fail edit, run every program and test; ends in 'N passed, 0 failed'"
-	@echo "make prove   prove every crate that has changed, and run the programs"
-	@echo "make lib     leave libmaftehon.a and its headers in target/lib"
-	@echo "make runs    print the runs of examples/floor.routes, or of FILE=..."
-	@echo "make layout  lay out every .rt and .antt file"
+	@echo "make test        prove every crate, try every must-fail edit, run every program and test; ends in 'N passed, 0 failed'"
+	@echo "make prove       prove every crate that has changed, and run the programs"
+	@echo "make lib         leave libmaftehon.a and its headers in target/lib"
+	@echo "make fuzz        compare the library with the reference on fresh seeds for SECONDS=60"
+	@echo "make exhaustive  compare both tries with the run listing at all 2^32 addresses (half an hour)"
+	@echo "make bench       measure the library against plain Rust, print a table, draw docs/speed.svg"
+	@echo "make runs        print the runs of examples/floor.routes, or of FILE=..."
+	@echo "make layout      lay out every .rt and .antt file"
 
 # The whole gate. scripts/gate prints the prover's own last line as its last line.
 test:
@@ -18,6 +21,19 @@ prove:
 
 lib:
 	@scripts/lib target/lib
+
+# The tools of rust/tools, on the archive that `lib` leaves.
+TOOL = cd rust && cargo run --release --offline --quiet --package tools --bin
+
+SECONDS ?= 60
+fuzz: lib
+	@$(TOOL) fuzz -- $(SECONDS)
+
+exhaustive: lib
+	@$(TOOL) exhaustive
+
+bench: lib
+	@$(TOOL) bench
 
 FILE ?= examples/floor.routes
 runs:

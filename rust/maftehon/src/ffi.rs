@@ -1,4 +1,5 @@
-//! The C boundary, as its header `maftehon.h` declares it. [`crate::calls`] has the same calls on slices, which are safe.
+//! The C boundary, as its headers `maftehon.h` and `maftehon_strides.h` declare it. [`crate::calls`] has the same calls
+//! on slices, which are safe.
 //!
 //! A pointer is valid for its size, aligned, and not null even where the size is 0; sizes count elements. `answer`
 //! receives the place first and then the results, and overlaps nothing else that is lent.

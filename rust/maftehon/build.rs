@@ -9,11 +9,12 @@ fn main() {
     let folder = std::env::var_os("MAFTEHON_LIB").map_or_else(folder_of_make_lib, PathBuf::from);
     let archive = folder.join(ARCHIVE);
     println!("cargo:rerun-if-changed={}", archive.display());
-    if !archive.is_file() {
+    // The linker runs in another folder than this program, so the path is made absolute.
+    let Ok(found) = archive.canonicalize() else {
         eprintln!("{} is missing: run `make lib` first, or set MAFTEHON_LIB to its folder", archive.display());
         std::process::exit(1);
-    }
-    println!("cargo:rustc-link-search=native={}", folder.display());
+    };
+    println!("cargo:rustc-link-search=native={}", found.with_file_name("").display());
     println!("cargo:rustc-link-lib=static=maftehon");
 }
 

@@ -19,7 +19,7 @@ pub struct Difference {
 
 impl fmt::Display for Difference {
     fn fmt(&self, formatter: &mut fmt::Formatter) -> fmt::Result {
-        write!(formatter, "{}{}: {}", self.call, self.arguments, self.what)
+        write!(formatter, "{} {}: {}", self.call, self.arguments, self.what)
     }
 }
 
@@ -51,7 +51,7 @@ impl<'a> Checker<'a> {
             let tried = make(self.tried, &mut tried_lent, argument);
             let right = make(self.right, &mut right_lent, argument);
             if tried != right {
-                let what = format!("answered {tried:?} and should {right:?}");
+                let what = format!("answered {tried:?}, and the reference {right:?}");
                 return Err(Difference { call, arguments: format!("{argument:?}"), what });
             }
             self.tally.add(call, tried.number);

@@ -58,7 +58,7 @@ impl<T: Pattern> Memory for Lent<T> {
         let at = (0..self.0.len()).find(|at| self.0[*at] != other.0[*at])?;
         let index = at as isize - GUARD as isize;
         let size = self.all().len();
-        Some(format!("element {index} of {size} lent is {:?} and should be {:?}", self.0[at], other.0[at]))
+        Some(format!("left {:?} in element {index} of {size} lent, and the reference {:?}", self.0[at], other.0[at]))
     }
 }
 

@@ -1,4 +1,5 @@
-//! The calls of the C boundary on slices, one for one: lent memory in, the refusal number and the words of `answer` out.
+//! The calls of the C boundary on slices, one for one: lent memory in, the refusal number and the words of `answer`
+//! out.
 //!
 //! SAFETY, once for every `unsafe` block below: the boundary asks that each pointer is valid for its size, aligned and
 //! not null, and that `answer` overlaps nothing else. A slice's pointer is all of the first even where the slice is

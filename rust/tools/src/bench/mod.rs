@@ -6,6 +6,7 @@ mod lookups;
 mod race;
 mod report;
 mod subject;
+mod svg;
 mod updates;
 
 pub use chart::chart;

@@ -3,3 +3,4 @@ pub mod Finding
 pub mod Sunk
 pub mod Refilled
 pub mod Walking
+pub mod Unique

@@ -3,11 +3,11 @@
 use cells::Row;
 use libc::STDOUT_FILENO;
 use routes::route_at;
+use rows::capacity_of;
+use rows::store_row;
 use save::save;
 use table::check;
 use table::lookup;
-use table::rows::capacity_of;
-use table::rows::store_row;
 
 // Stores row r, whose port is r+1.
 fn row(rows: &mut [u32], r: u32, value: u32, len: u32, left: u32, right: u32) {

@@ -14,8 +14,8 @@ use crate::place::with_child;
 use crate::place::with_route;
 use cells::Row;
 use routes::Route;
-use table::rows::row_at;
-use table::rows::store_row;
+use rows::row_at;
+use rows::store_row;
 
 // No route: port 0 is never a route's port.
 const NO_ROUTE: Route = Route {

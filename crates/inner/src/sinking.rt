@@ -18,8 +18,8 @@ use crate::place::with_child;
 use crate::place::with_route;
 use cells::Row;
 use routes::Route;
-use table::rows::row_at;
-use table::rows::store_row;
+use rows::row_at;
+use rows::store_row;
 
 // What a route that sinks past a row does there: the row with its new holder, and what goes on down, with its side and child.
 pub struct Plan {

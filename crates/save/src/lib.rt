@@ -17,8 +17,8 @@ use routes::Answer;
 use routes::Route;
 use routes::refusal::NO_ROOM;
 use routes::refusal::NOT_IN_ORDER;
+use rows::row_at;
 use table::is_good;
-use table::rows::row_at;
 
 // A row's route.
 fn route_of(x: Row) -> Route

@@ -7,10 +7,10 @@ ghost use Rattle.cells.specs.Order.{aheadOf};
 ghost use Rattle.cells.specs.Check.{firstSeen, seenOver, seenJoin, seenAt};
 ghost use Rattle.order.specs.Walk.{lastSeen, seenBelow};
 use crate::is_wrong;
-use crate::rows::row_at;
 use cells::Row;
 use cells::Seen;
 use prefix::Prefix;
+use rows::row_at;
 
 const NO_ROWS: Seen = Seen {
     wrong: false,

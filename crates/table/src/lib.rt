@@ -16,7 +16,6 @@ use rows::capacity_of;
 use rows::row_at;
 
 mod good;
-pub mod rows;
 
 // Whether a row read at a depth is wrong for the address: a child number n or more, a length above 32 or below the depth, bits
 // past the length, a port outside 1..4094, or a prefix that differs from the address in the first (depth) bits.

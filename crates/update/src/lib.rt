@@ -15,7 +15,7 @@ use routes::Route;
 use routes::refusal::NO_ROOM;
 use routes::refusal::NOT_HELD;
 use routes::refusal::NOT_IN_ORDER;
-use table::rows::capacity_of;
+use rows::capacity_of;
 
 // A refusal of an update: the number of routes stays as it was.
 fn keeping(number: u32, n: u32) -> Answer

@@ -15,7 +15,7 @@ use Rattle.save.proofs.+save_at+save_below.Lts-save_at as save-at-lts
 use Rattle.save.proofs.save_below.Reads as save-below
 use Rattle.save.proofs.save_below.Kinds as save-below-kinds
 use Rattle.save.proofs.+save_at+save_below.Lts-save_below as save-below-lts
-use Rattle.table.proofs.rows.row_at.Reads as row-at-reads
+use Rattle.rows.proofs.row_at.Reads as row-at-reads
 use Rattle.save.proofs.put_route.Reads as put-route-reads
 use Rattle.save.proofs.route_of.Reads as route-of-reads
 use Rattle.save.proofs.sink_route.Reads as sink-route-reads

@@ -13,8 +13,8 @@ use Rattle.table.proofs.ends.Reads as ends-reads
 use Rattle.table.proofs.found_port.Reads as found-port-reads
 use Rattle.table.proofs.is_wrong.Reads as is-wrong-reads
 use Rattle.table.proofs.lost_at.Reads as lost-at-reads
-use Rattle.table.proofs.rows.capacity_of.Reads as capacity-of-reads
-use Rattle.table.proofs.rows.row_at.Reads as row-at-reads
+use Rattle.rows.proofs.capacity_of.Reads as capacity-of-reads
+use Rattle.rows.proofs.row_at.Reads as row-at-reads
 
 abbrev Inv-loop : tie.InvT-loop
 Inv-loop rows n address left₀ row₀ best₀ reads₀ left row best reads = Searching 32 (capacity rows) (rowAt rows) n address left row best reads

@@ -12,7 +12,7 @@ use borrow.Fn.PlainCycle.{Measures, is, falls, and}
 use Rattle.inner.proofs.refilling.best_child.Reads as best-child
 use Rattle.inner.proofs.refilling.best_child.Kinds as best-child-kinds
 use Rattle.inner.proofs.refilling.+best_child.Lts-best_child as best-child-lts
-use Rattle.table.proofs.rows.row_at.Reads as row-at-reads
+use Rattle.rows.proofs.row_at.Reads as row-at-reads
 use Rattle.inner.proofs.place.route_of.Reads as route-of-reads
 use Rattle.inner.proofs.refilling.first_route.Reads as first-route-reads
 use Rattle.inner.proofs.refilling.or_route.Reads as or-route-reads

@@ -11,8 +11,8 @@ use borrow.Fn.PlainCycle.{Measures, is, falls, and}
 use Rattle.inner.proofs.refilling.cut_from.Reads as cut-from
 use Rattle.inner.proofs.refilling.cut_from.Kinds as cut-from-kinds
 use Rattle.inner.proofs.refilling.+cut_from.Lts-cut_from as cut-from-lts
-use Rattle.table.proofs.rows.row_at.Reads as row-at-reads
-use Rattle.table.proofs.rows.store_row.Reads as store-row-reads
+use Rattle.rows.proofs.row_at.Reads as row-at-reads
+use Rattle.rows.proofs.store_row.Reads as store-row-reads
 use Rattle.inner.proofs.place.with_child.Reads as with-child-reads
 use Rattle.inner.proofs.place.with_route.Reads as with-route-reads
 use Rattle.inner.proofs.refilling.is_last.Reads as is-last-reads

@@ -20,7 +20,7 @@ use Rattle.prefix.proofs.Prefix.right.Reads as right-reads
 use Rattle.table.proofs.good.last_seen.Reads as last-seen-reads
 use Rattle.table.proofs.good.seen_join.Reads as seen-join-reads
 use Rattle.table.proofs.is_wrong.Reads as is-wrong-reads
-use Rattle.table.proofs.rows.row_at.Reads as row-at-reads
+use Rattle.rows.proofs.row_at.Reads as row-at-reads
 use Rattle.table.proofs.good.+seen_at+seen_below.{statement}
 use Rattle.table.proofs.good.+seen_at+seen_below.Tie.{close}
 

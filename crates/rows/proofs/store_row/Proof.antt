@@ -1,8 +1,8 @@
 use lib.ListN.{length-set}
 use native.Mathlib.Omega.{arith}
 use borrow.Author.Needs.{needs}
-use Rattle.table.proofs.rows.store_row.Statement.{statement}
-use Rattle.table.proofs.rows.store_row.Tie as tie
+use Rattle.rows.proofs.store_row.Statement.{statement}
+use Rattle.rows.proofs.store_row.Tie as tie
 
 mul-at : tie.Need-mul-at
 mul-at c = search needs

@@ -1,0 +1,2 @@
+-- That each promise leaves no choice.
+pub mod Unique

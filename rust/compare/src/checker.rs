@@ -17,6 +17,20 @@ pub struct Difference {
     what: String,
 }
 
+/// A large input is not printed whole: the seed makes it again.
+const ARGUMENTS_LAST: usize = 400;
+
+impl Difference {
+    fn new(call: &'static str, argument: &impl Debug, what: String) -> Difference {
+        let mut arguments = format!("{argument:?}");
+        if arguments.len() > ARGUMENTS_LAST {
+            arguments.truncate(ARGUMENTS_LAST);
+            arguments += " ..";
+        }
+        Difference { call, arguments, what }
+    }
+}
+
 impl fmt::Display for Difference {
     fn fmt(&self, formatter: &mut fmt::Formatter) -> fmt::Result {
         write!(formatter, "{} {}: {}", self.call, self.arguments, self.what)
@@ -52,16 +66,15 @@ impl<'a> Checker<'a> {
             let right = make(self.right, &mut right_lent, argument);
             if tried != right {
                 let what = format!("answered {tried:?}, and the reference {right:?}");
-                return Err(Difference { call, arguments: format!("{argument:?}"), what });
+                return Err(Difference::new(call, argument, what));
             }
             self.tally.add(call, tried.number);
             answers.push(right);
         }
-        if let Some(what) = tried_lent.difference(&right_lent) {
-            let arguments = arguments.last().map_or(String::new(), |last| format!("{last:?}"));
-            return Err(Difference { call, arguments, what });
+        match (tried_lent.difference(&right_lent), arguments.last()) {
+            (Some(what), Some(last)) => Err(Difference::new(call, last, what)),
+            _ => Ok((answers, right_lent)),
         }
-        Ok((answers, right_lent))
     }
 
     /// One call; its argument is only what a difference prints.
@@ -175,7 +188,7 @@ impl<'a> Checker<'a> {
             (library.image_lookup)(stride, nodes.all(), ports.all(), *address)
         })?;
         if [1, 2, 4].contains(&stride) {
-            self.each("image_lookup_s", lent, addresses, |library, (nodes, ports), address| {
+            self.each("image_lookup_S", lent, addresses, |library, (nodes, ports), address| {
                 (library.image_lookup_constant)(stride, nodes.all(), ports.all(), *address)
             })?;
         }

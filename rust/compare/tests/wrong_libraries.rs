@@ -107,5 +107,5 @@ fn an_announcement_that_is_lost_is_told() {
 #[test]
 fn a_constant_stride_that_walks_another_is_told() {
     let wrong = |_, nodes: &[u32], ports: &[u16], address| reference::image_lookup(4, nodes, ports, address);
-    assert_told("image_lookup_s", Library { image_lookup_constant: wrong, ..REFERENCE });
+    assert_told("image_lookup_S", Library { image_lookup_constant: wrong, ..REFERENCE });
 }

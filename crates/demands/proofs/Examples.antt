@@ -31,8 +31,8 @@ use Rattle.listing.proofs.Listing.{example-12}
 use Rattle.demands.specs.Examples.{address, row, tableI, seven, afterwards, imageWords, foundIn, StarredHold}
 
 -- the route that a row of the rules' table holds
-abbrev held : ℕ → ℕ → ℕ → Route
-held bits len port = route (address bits len) len port
+abbrev holding : ℕ → ℕ → ℕ → Route
+holding bits len port = route (address bits len) len port
 
 -- Table I is in good order: what the check has seen, row by row from below
 good : isGood 32 10 (rowAt tableI) 10 ≡ true
@@ -78,16 +78,16 @@ fourth = tableWith (row 18 5 3 1 2) (row 19 5 5 4 5) (row 8 4 7 0 7) (row 8 4 7 
 abbrev fifth : List ℕ
 fifth = tableWith (row 18 5 3 1 2) (row 19 5 5 4 5) (row 8 4 7 0 7) (row 15 4 10 0 0) (row 14 4 9 0 6) (row 0 0 0 0 0)
 
-cut-is : cut rowAt storeRow 32 32 tableI 0 (held 38 6 0) ≡ record { rows = third; freed = 6 }
+cut-is : cut rowAt storeRow 32 32 tableI 0 (holding 38 6 0) ≡ record { rows = third; freed = 6 }
 cut-is =
     let M = rowAt tableI in
     let F = rowAt first in
     let S = rowAt second in
-    cut-on 31 0 tableI (held 38 6 0) (held 0 2 2) (held 18 5 3) (held 18 5 3) refl (best-own 32 M 30 1 refl refl) (best-own 32 M 30 2 refl refl) refl 2 refl
+    cut-on 31 0 tableI (holding 38 6 0) (holding 0 2 2) (holding 18 5 3) (holding 18 5 3) refl (best-own 32 M 30 1 refl refl) (best-own 32 M 30 2 refl refl) refl 2 refl
     first refl refl
-    ∙ cut-on 30 2 first (held 18 5 3) (held 19 5 5) (held 14 4 9) (held 19 5 5) refl (best-own 32 F 29 4 refl refl)
-    (best-below 32 F 29 5 noRoute (held 14 4 9) refl refl (best-none 32 F 29 0 refl) (best-own 32 F 28 8 refl refl)) refl 4 refl second refl refl
-    ∙ cut-last 29 4 second (held 19 5 5) (held 8 4 7) (held 5 3 8) (held 8 4 7) refl (best-own 32 S 28 6 refl refl)
+    ∙ cut-on 30 2 first (holding 18 5 3) (holding 19 5 5) (holding 14 4 9) (holding 19 5 5) refl (best-own 32 F 29 4 refl refl)
+    (best-below 32 F 29 5 noRoute (holding 14 4 9) refl refl (best-none 32 F 29 0 refl) (best-own 32 F 28 8 refl refl)) refl 4 refl second refl refl
+    ∙ cut-last 29 4 second (holding 19 5 5) (holding 8 4 7) (holding 5 3 8) (holding 8 4 7) refl (best-own 32 S 28 6 refl refl)
     (best-below 32 S 28 7 noRoute noRoute refl refl (best-none 32 S 28 0 refl) (best-none 32 S 28 0 refl)) refl 6 refl third refl refl
 
 relink-is : relink rowAt storeRow 32 32 third 0 (address 15 4) 9 6 ≡ fourth
@@ -97,7 +97,7 @@ relink-is =
     ∙ relink-on 29 5 third (address 15 4) 9 6 8 refl refl
     ∙ relink-here 28 8 third (address 15 4) 9 6 9 refl fourth refl refl
 
-withdrawn-is : withdrawn rowAt storeRow 32 tableI 10 (held 38 6 0) ≡ fifth
+withdrawn-is : withdrawn rowAt storeRow 32 tableI 10 (holding 38 6 0) ≡ fifth
 unfolding withdrawn closeGap
 withdrawn-is = rw (cut-is, relink-is)
 
@@ -106,14 +106,14 @@ unfolding withdrawInto withdrawIn heldAt
 withdrawal-is = rw (good, withdrawn-is)
 
 -- the seven routes, by their bits
-abbrev bitRoute : Bits → ℕ → BitRoute
-bitRoute bits port = record { prefix = bits; port = port }
+abbrev ofBits : Bits → ℕ → BitRoute
+ofBits bits port = record { prefix = bits; port = port }
 
 abbrev sevenBits : List BitRoute
 sevenBits =
-    bitRoute (false ∷ false ∷ false ∷ []) 3 ∷ bitRoute (false ∷ false ∷ true ∷ []) 4 ∷ bitRoute (false ∷ true ∷ []) 1
-    ∷ bitRoute (true ∷ false ∷ []) 2 ∷ bitRoute (true ∷ true ∷ false ∷ false ∷ []) 6 ∷ bitRoute (true ∷ true ∷ false ∷ true ∷ []) 7
-    ∷ bitRoute (true ∷ true ∷ true ∷ []) 5 ∷ []
+    ofBits (false ∷ false ∷ false ∷ []) 3 ∷ ofBits (false ∷ false ∷ true ∷ []) 4 ∷ ofBits (false ∷ true ∷ []) 1
+    ∷ ofBits (true ∷ false ∷ []) 2 ∷ ofBits (true ∷ true ∷ false ∷ false ∷ []) 6 ∷ ofBits (true ∷ true ∷ false ∷ true ∷ []) 7
+    ∷ ofBits (true ∷ true ∷ true ∷ []) 5 ∷ []
 
 seven-listed : listed 32 seven ≡ sevenBits
 unfolding listOf bits

@@ -41,44 +41,33 @@ fn number(x: u32) {
     io::print_decimal(STDOUT_FILENO, x as u64);
 }
 
-// A word and a port of the memories lent; 99 past their ends, which no claim has.
-fn word(nodes: &[u32], at: usize) {
-    if at < nodes.len() {
-        number(nodes[at]);
-    } else {
-        number(99);
-    }
-}
-
 fn wide(x: u16) -> u32 {
     x as u32
 }
 
-fn port(ports: &[u16], at: usize) {
-    if at < ports.len() {
-        number(wide(ports[at]));
-    } else {
-        number(99);
+// The bitmaps, the offsets or the leaf bases of all nodes lent: part 0, 1 or 2.
+fn show_nodes(claim: &[u8], nodes: &[u32], part: usize) {
+    text(claim);
+    if part < 3 {
+        let count = nodes.len() / 3;
+        let mut i: usize = 0;
+        while i < count {
+            number(nodes[i * 3 + part]);
+            i += 1;
+        }
     }
+    text(b"\n");
 }
 
-// One of the three words of the first three nodes, and of the next three.
-fn three(nodes: &[u32], from: usize) {
-    if from < 1000 {
-        word(nodes, from);
-        word(nodes, from + 3);
-        word(nodes, from + 6);
+// All ports lent.
+fn show_ports(claim: &[u8], ports: &[u16]) {
+    text(claim);
+    let mut i: usize = 0;
+    while i < ports.len() {
+        number(wide(ports[i]));
+        i += 1;
     }
-}
-
-// Four ports from a number on.
-fn four(ports: &[u16], from: usize) {
-    if from < 1000 {
-        port(ports, from);
-        port(ports, from + 1);
-        port(ports, from + 2);
-        port(ports, from + 3);
-    }
+    text(b"\n");
 }
 
 fn found(claim: &[u8], x: Found) {
@@ -107,48 +96,13 @@ fn looked(claim: &[u8], stride: u32, address: u32) {
     found(claim, lookup(stride, &nodes, &ports, address));
 }
 
-// The bitmaps, offsets or leaf bases of three nodes, and of six.
-fn of_three(claim: &[u8], nodes: &[u32], from: usize) {
-    text(claim);
-    three(nodes, from);
-    text(b"\n");
-}
-
-fn of_six(claim: &[u8], nodes: &[u32], from: usize) {
-    if from < 3 {
-        text(claim);
-        three(nodes, from);
-        three(nodes, from + 9);
-        text(b"\n");
-    }
-}
-
-fn seven_ports(ports: &[u16]) {
-    text(b"example_9_ports");
-    four(ports, 0);
-    port(ports, 4);
-    port(ports, 5);
-    port(ports, 6);
-    text(b"\n");
-}
-
-fn spare_words(nodes: &[u32], ports: &[u16]) {
-    text(b"words_past_the_image_stay");
-    word(nodes, 18);
-    word(nodes, 19);
-    word(nodes, 20);
-    port(ports, 7);
-    text(b"\n");
-}
-
-// Example 9, in memory with words to spare.
+// Example 9, in memory for one node and one port more, which stay as they were.
 fn image_9(nodes: &mut [u32], ports: &mut [u16]) {
     built(b"example_9_is_built", 1, &seven(), nodes, ports);
-    of_six(b"example_9_bitmaps", nodes, 0);
-    of_six(b"example_9_offsets", nodes, 1);
-    of_six(b"example_9_leaf_bases", nodes, 2);
-    seven_ports(ports);
-    spare_words(nodes, ports);
+    show_nodes(b"example_9_bitmaps", nodes, 0);
+    show_nodes(b"example_9_offsets", nodes, 1);
+    show_nodes(b"example_9_leaf_bases", nodes, 2);
+    show_ports(b"example_9_ports", ports);
 }
 
 fn example_9() {
@@ -167,21 +121,12 @@ fn addresses_9() {
     looked(b"stride_1_last_address", 1, 4294967295);
 }
 
-fn ten_ports(ports: &[u16]) {
-    text(b"example_10_ports");
-    four(ports, 0);
-    four(ports, 4);
-    port(ports, 8);
-    port(ports, 9);
-    text(b"\n");
-}
-
 fn image_10(nodes: &mut [u32], ports: &mut [u16]) {
     built(b"example_10_is_built", 2, &seven(), nodes, ports);
-    of_three(b"example_10_bitmaps", nodes, 0);
-    of_three(b"example_10_offsets", nodes, 1);
-    of_three(b"example_10_leaf_bases", nodes, 2);
-    ten_ports(ports);
+    show_nodes(b"example_10_bitmaps", nodes, 0);
+    show_nodes(b"example_10_offsets", nodes, 1);
+    show_nodes(b"example_10_leaf_bases", nodes, 2);
+    show_ports(b"example_10_ports", ports);
 }
 
 fn example_10() {
@@ -199,28 +144,16 @@ fn addresses_10() {
     looked(b"stride_2_last_address", 2, 4294967295);
 }
 
-fn one_node(nodes: &[u32]) {
-    text(b"example_11_node");
-    word(nodes, 0);
-    word(nodes, 1);
-    word(nodes, 2);
-    text(b"\n");
-}
-
-fn sixteen_ports(ports: &[u16]) {
-    text(b"example_11_ports");
-    four(ports, 0);
-    four(ports, 4);
-    four(ports, 8);
-    four(ports, 12);
-    text(b"\n");
-}
-
 fn image_11(nodes: &mut [u32], ports: &mut [u16]) {
     let none = [0u32; 0];
     built(b"example_11_is_built", 4, &none, nodes, ports);
-    one_node(nodes);
-    sixteen_ports(ports);
+    show_nodes(b"example_11_bitmap", nodes, 0);
+    show_nodes(b"example_11_offset", nodes, 1);
+    show_nodes(b"example_11_leaf_base", nodes, 2);
+    show_ports(b"example_11_ports", ports);
+}
+
+fn addresses_11(nodes: &[u32], ports: &[u16]) {
     found(b"empty_image_address_0", lookup(4, nodes, ports, 0));
     found(
         b"empty_image_last_address",
@@ -232,15 +165,14 @@ fn example_11() {
     let mut nodes = [77u32; 3];
     let mut ports = [77u16; 16];
     image_11(&mut nodes, &mut ports);
+    addresses_11(&nodes, &ports);
 }
 
 // A build that is refused writes nothing.
 fn refused(claim: &[u8], stride: u32, list: &[u32], nodes: &mut [u32], ports: &mut [u16]) {
     built(claim, stride, list, nodes, ports);
-    text(b"nothing_is_written");
-    word(nodes, 0);
-    port(ports, 0);
-    text(b"\n");
+    show_ports(b"no_port_is_written", ports);
+    show_nodes(b"no_bitmap_is_written", nodes, 0);
 }
 
 // The seven routes, or another list, into memory for six nodes and seven ports.

@@ -219,18 +219,19 @@ pub fn lookup_4(nodes: &[u32], ports: &[u16], address: u32) -> Found
 }
 
 // The port of an address and the nodes read. Refuses 12, then 11 with the nodes read so far, both at place 0. A stride that is a
-// constant lets the compiler make its walk for that stride alone.
+// constant lets the compiler make its walk for that stride alone; and it calls none of the three above, so that each walk has one
+// caller, in which the compiler unfolds it.
 pub fn lookup(stride: u32, nodes: &[u32], ports: &[u16], address: u32) -> Found
     ensures { λ r. ⌜ r ≡ foundOf (lookupWords 32 stride (now (nodes .entry)) (now (ports .entry)) address) ⌝ }
 {
     if stride == 1 {
-        return lookup_1(nodes, ports, address);
+        return descend(1, nodes, ports, address);
     }
     if stride == 2 {
-        return lookup_2(nodes, ports, address);
+        return descend(2, nodes, ports, address);
     }
     if stride == 4 {
-        return lookup_4(nodes, ports, address);
+        return descend(4, nodes, ports, address);
     }
     Found::refused(WRONG_STRIDE, 0)
 }

@@ -4,23 +4,23 @@ use borrow.Author.Needs.{needs}
 use Rattle.image.proofs.lookup.Statement.{statement}
 use Rattle.image.proofs.lookup.Tie as tie
 
-lookup-1-requires : tie.Need-lookup-1-requires
-lookup-1-requires c κs = search needs
+descend-requires : tie.Need-descend-requires
+descend-requires c κs = search needs
 
 returns : tie.Need-returns
-returns c = rw (c .before .if1 .taken) (c .lookup-1 .ensures)
+returns c = rw (c .before .if1 .taken) (c .descend .ensures)
 
-lookup-2-requires : tie.Need-lookup-2-requires
-lookup-2-requires c κs = search needs
+descend-requires-2 : tie.Need-descend-requires-2
+descend-requires-2 c κs = search needs
 
 returns-2 : tie.Need-returns-2
-returns-2 c = rw (c .before .if2 .taken) (c .lookup-2 .ensures)
+returns-2 c = rw (c .before .if2 .taken) (c .descend2 .ensures)
 
-lookup-4-requires : tie.Need-lookup-4-requires
-lookup-4-requires c κs = search needs
+descend-requires-3 : tie.Need-descend-requires-3
+descend-requires-3 c κs = search needs
 
 returns-3 : tie.Need-returns-3
-returns-3 c = rw (c .before .if3 .taken) (c .lookup-4 .ensures)
+returns-3 c = rw (c .before .if3 .taken) (c .descend3 .ensures)
 
 refused-requires : tie.Need-refused-requires
 refused-requires c κs = search needs
@@ -39,11 +39,11 @@ pub lookup-spec : {M : Type 1} → statement M
 lookup-spec =
     tie.close
     (tie.spec
-    lookup-1-requires
+    descend-requires
     returns
-    lookup-2-requires
+    descend-requires-2
     returns-2
-    lookup-4-requires
+    descend-requires-3
     returns-3
     refused-requires
     returns-4)

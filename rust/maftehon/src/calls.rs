@@ -5,6 +5,8 @@
 //! not null, and that `answer` overlaps nothing else. A slice's pointer is all of the first even where the slice is
 //! empty, its length counts elements as the boundary does, a `&mut` slice overlaps no other slice, and `answer` is a
 //! fresh array of the size that the header states. The library keeps no pointer after the call.
+//!
+//! The lookups are so short that they are inlined: nothing comes between a program and the library.
 
 use crate::ffi;
 
@@ -50,6 +52,7 @@ pub fn table_check(rows: &[u32], n: u32) -> Reply<1> {
 }
 
 /// Looks an address up in any rows. Answer: place, port, rows read.
+#[inline]
 pub fn table_lookup(rows: &[u32], n: u32, address: u32) -> Reply<3> {
     reply(|answer| unsafe { ffi::mft_table_lookup(rows.as_ptr(), rows.len(), n, address, answer) })
 }
@@ -84,6 +87,7 @@ pub fn image_build(stride: u32, list: &[u32], nodes: &mut [u32], ports: &mut [u1
 }
 
 /// Looks an address up in any image. Answer: place, port, nodes read.
+#[inline]
 pub fn image_lookup(stride: u32, nodes: &[u32], ports: &[u16], address: u32) -> Reply<3> {
     reply(|answer| unsafe {
         ffi::mft_image_lookup(stride, nodes.as_ptr(), nodes.len(), ports.as_ptr(), ports.len(), address, answer)
@@ -91,6 +95,7 @@ pub fn image_lookup(stride: u32, nodes: &[u32], ports: &[u16], address: u32) -> 
 }
 
 /// [`image_lookup`] at stride 1. Answer: place, port, nodes read.
+#[inline]
 pub fn image_lookup_1(nodes: &[u32], ports: &[u16], address: u32) -> Reply<3> {
     reply(|answer| unsafe {
         ffi::mft_image_lookup_1(nodes.as_ptr(), nodes.len(), ports.as_ptr(), ports.len(), address, answer)
@@ -98,6 +103,7 @@ pub fn image_lookup_1(nodes: &[u32], ports: &[u16], address: u32) -> Reply<3> {
 }
 
 /// [`image_lookup`] at stride 2. Answer: place, port, nodes read.
+#[inline]
 pub fn image_lookup_2(nodes: &[u32], ports: &[u16], address: u32) -> Reply<3> {
     reply(|answer| unsafe {
         ffi::mft_image_lookup_2(nodes.as_ptr(), nodes.len(), ports.as_ptr(), ports.len(), address, answer)
@@ -105,6 +111,7 @@ pub fn image_lookup_2(nodes: &[u32], ports: &[u16], address: u32) -> Reply<3> {
 }
 
 /// [`image_lookup`] at stride 4. Answer: place, port, nodes read.
+#[inline]
 pub fn image_lookup_4(nodes: &[u32], ports: &[u16], address: u32) -> Reply<3> {
     reply(|answer| unsafe {
         ffi::mft_image_lookup_4(nodes.as_ptr(), nodes.len(), ports.as_ptr(), ports.len(), address, answer)

@@ -69,6 +69,7 @@ impl Image {
     }
 
     /// The port of the longest match, and the nodes read.
+    #[inline]
     pub fn lookup(&self, address: Ipv4Addr) -> Found {
         Found::of(self.look(address.into()).done())
     }

@@ -63,6 +63,7 @@ impl Table {
     }
 
     /// The port of the longest match, and the rows read, at most 33.
+    #[inline]
     pub fn lookup(&self, address: Ipv4Addr) -> Found {
         Found::of(calls::table_lookup(&self.rows, self.n, address.into()).done())
     }

@@ -26,7 +26,7 @@ pub fn chart(all: &[Measured]) -> String {
     let height = TOP + group_height * groups.len() as f64 + FOOT;
     let scale = Scale::of(&groups);
     let mut elements =
-        text(10.0, 20.0, LARGE, "Time of the proved library as a multiple of plain Rust's (below 1: quicker)");
+        text(10.0, 20.0, LARGE, "Time of the proved library as a multiple of plain Rust's or C's (below 1: quicker)");
     elements += &legend(all);
     elements += &scale.lines(height);
     for (number, group) in groups.iter().enumerate() {

@@ -1,13 +1,14 @@
-//! Lookups: every structure against the plain trie, and the image at stride 4 against a plain walk of itself.
+//! Lookups: every structure against the plain trie, and the image at stride 4 against a plain walk of it in C.
 
 use super::race::{Race, Runner};
-use super::subject::Subject;
+use super::subject::{Image, Subject};
 use crate::plain_walk;
 use maftehon::calls::{self, Reply};
 
 const STRIDES: [u32; 3] = [1, 2, 4];
 
 pub fn races(subject: &Subject) -> Vec<Race<'_>> {
+    let general_4 = |nodes: &[u32], ports: &[u16], address| calls::image_lookup(4, nodes, ports, address);
     vec![
         image("image lookup, stride 1", subject, 0, calls::image_lookup_1),
         image("image lookup, stride 2", subject, 1, calls::image_lookup_2),
@@ -16,7 +17,10 @@ pub fn races(subject: &Subject) -> Vec<Race<'_>> {
         general("the same by the general call, stride 2", subject, 1),
         general("the same by the general call, stride 4", subject, 2),
         table(subject),
-        walk(subject),
+        walk("image lookup, stride 4, against a C walk", &subject.images[2], subject, calls::image_lookup_4),
+        walk("the same by the general call, against a C walk", &subject.images[2], subject, general_4),
+        walk("image of no route, stride 4, against a C walk", &subject.empty_image, subject, calls::image_lookup_4),
+        walk("the same of no route, by the general call", &subject.empty_image, subject, general_4),
     ]
 }
 
@@ -65,11 +69,16 @@ fn table(subject: &Subject) -> Race<'_> {
     )
 }
 
-fn walk(subject: &Subject) -> Race<'_> {
-    let ((nodes, ports), addresses) = (&subject.images[2], &subject.addresses);
-    Race::new("image lookup, stride 4, and a plain walk of the same image")
-        .runner(Runner::Proved, addresses.len(), |number| {
-            calls::image_lookup_4(nodes, ports, addresses[number]).answer[1]
+fn walk<'a>(
+    what: &'static str,
+    (nodes, ports): &'a Image,
+    subject: &'a Subject,
+    lookup: impl Fn(&[u32], &[u16], u32) -> Reply<3> + 'a,
+) -> Race<'a> {
+    let addresses = &subject.addresses;
+    Race::new(what)
+        .runner(Runner::Proved, addresses.len(), move |number| lookup(nodes, ports, addresses[number]).answer[1])
+        .runner(Runner::Plain, addresses.len(), move |number| {
+            plain_walk::lookup_4(nodes, ports, addresses[number]).answer[1]
         })
-        .runner(Runner::Plain, addresses.len(), |number| plain_walk::lookup_4(nodes, ports, addresses[number]).1)
 }

@@ -1,4 +1,5 @@
-//! Measurement: the proved library, plain Rust and the reference on the same work, in turns, and medians of the rounds.
+//! Measurement: the proved library, plain Rust or C, and the reference on the same work, in turns, and medians of the
+//! rounds.
 
 mod chart;
 mod lists;

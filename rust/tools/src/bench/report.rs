@@ -9,7 +9,7 @@ pub fn report(all: &[Measured]) -> String {
 
 fn table(measured: &Measured) -> String {
     let head =
-        "| What | proved | plain Rust | proved ÷ plain | reference | proved ÷ reference |\n|---|---|---|---|---|---|\n";
+        "| What | proved | plain | proved ÷ plain | reference | proved ÷ reference |\n|---|---|---|---|---|---|\n";
     let rows: String = measured.outcomes.iter().map(row).collect();
     format!("### {}\n\n{head}{rows}", measured.set)
 }

@@ -7,13 +7,18 @@ use workload::{list_of, Held, Kind, Random};
 /// How many addresses a turn looks up.
 const ADDRESSES: usize = 1 << 14;
 
+/// Nodes and ports.
+pub type Image = (Vec<u32>, Vec<u16>);
+
 pub struct Subject {
     pub held: Held,
     pub list: Vec<u32>,
     pub rows: Vec<u32>,
     pub n: u32,
     /// At strides 1, 2 and 4.
-    pub images: [(Vec<u32>, Vec<u16>); 3],
+    pub images: [Image; 3],
+    /// At stride 4, of no route: the root alone, so that a lookup in it is little more than the call.
+    pub empty_image: Image,
     pub trie: PlainTrie,
     pub addresses: Vec<u32>,
 }
@@ -22,18 +27,23 @@ impl Subject {
     pub fn new(kind: Kind) -> Subject {
         let held = crate::full_set(kind);
         let list = list_of(&held);
-        let (mut images, mut table) = (Vec::new(), None);
-        for structure in Structure::all_of(&list) {
-            match structure {
-                Structure::Image { nodes, ports, .. } => images.push((nodes, ports)),
-                Structure::Table { rows, n } => table = Some((rows, n)),
-            }
-        }
-        let (rows, n) = table.expect("a table is among the structures");
-        let images = images.try_into().expect("an image for each of three strides");
+        let (images, (rows, n)) = built(&list);
+        let ([.., empty_image], _) = built(&[]);
         let (trie, addresses) = (PlainTrie::build(&list), addresses(&list));
-        Subject { held, list, rows, n, images, trie, addresses }
+        Subject { held, list, rows, n, images, empty_image, trie, addresses }
     }
+}
+
+/// The images at strides 1, 2 and 4, and the table: its rows and how many they are.
+fn built(list: &[u32]) -> ([Image; 3], (Vec<u32>, u32)) {
+    let (mut images, mut table) = (Vec::new(), None);
+    for structure in Structure::all_of(list) {
+        match structure {
+            Structure::Image { nodes, ports, .. } => images.push((nodes, ports)),
+            Structure::Table { rows, n } => table = Some((rows, n)),
+        }
+    }
+    (images.try_into().expect("an image for each of three strides"), table.expect("a table is among the structures"))
 }
 
 /// Half of them inside a route, the others anywhere.

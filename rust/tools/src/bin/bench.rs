@@ -1,5 +1,5 @@
-//! `bench [ROUNDS]`: measures the proved library, plain Rust and the reference in turns, prints a Markdown table of the
-//! medians and ratios, and draws `docs/speed.svg`. Nothing is asserted about a time.
+//! `bench [ROUNDS]`: measures the proved library, plain Rust or C, and the reference in turns, prints a Markdown table
+//! of the medians and ratios, and draws `docs/speed.svg`. Nothing is asserted about a time.
 
 use tools::bench::{chart, measure, report, Measured};
 

@@ -15,7 +15,7 @@ use Rattle.trie.specs.Update.{down, insert, growsOn, grows}
 use Rattle.trie.proofs.Insert.{lower-not-nil}
 use Rattle.routes.specs.Routes.{ValidRoute}
 use Rattle.routes.specs.declared.Route.{Route}
-use Rattle.cells.specs.Rows.{Mem, Stores, child, routeOf, leafRow, withRoute, withChild}
+use Rattle.cells.specs.Rows.{Mem, Layout, Stores, child, routeOf, leafRow, withRoute, withChild}
 use Rattle.cells.specs.Holds.{Names, RowHolds, Holds, hit, times}
 use Rattle.cells.specs.Lookup.{bitBefore}
 use Rattle.cells.specs.Announce.{isSame, isOver, pick, sinkBy, sink}
@@ -88,46 +88,46 @@ route-keeps x q false = refl
 pub with-route : (x : Row) (b : Bool) (c : ℕ) → routeOf (withChild x b c) ≡ routeOf x
 with-route x b c = refl
 
-module _ {S : Type 0} (get : S → Mem) (put : S → ℕ → Row → S) (room : S → ℕ) (st : Stores get put room) (w : ℕ) where
+module _ {S : Type 0} (L : Layout S) (w : ℕ) (st : Stores w L) where
   -- the rows from r on held t, and hold it with the route in it
   pub record Grown (s s′ : S) (path : Bits) (n r : ℕ) (t : Trie) (y : Bits) (p : ℕ) : Type 0 where
-    pub holds : Holds w (get s′) path r (insert y p t)
-    pub reached : (i : ℕ) → times (get s′) r (insert y p t) i ≡ times (get s) r t i + cond (grows y t) (hit n i) 0
-    pub frame : (i : ℕ) → times (get s) r t i ≡ 0 → (grows y t ≡ true → i ≡ n → ⊥) → get s′ i ≡ get s i
-    pub rooms : room s′ ≡ room s
+    pub holds : Holds w (L .get s′) path r (insert y p t)
+    pub reached : (i : ℕ) → times (L .get s′) r (insert y p t) i ≡ times (L .get s) r t i + cond (grows y t) (hit n i) 0
+    pub frame : (i : ℕ) → times (L .get s) r t i ≡ 0 → (grows y t ≡ true → i ≡ n → ⊥) → L .get s′ i ≡ L .get s i
+    pub rooms : L .room s′ ≡ L .room s
 
   abbrev Grows : Trie → Type 0
   Grows leaf = Unit {0}
   Grows (node s p c) =
       (k : ℕ) (path : Bits) (m : S) (n r : ℕ) (q : Route) (y : Bits) → length path + k ≡ w → RouteAt w path q y
-      → Holds w (get m) path r (node s p c) → Unique (get m) r (node s p c) → Below (get m) r (node s p c) n → 0 < n → n ≤ room m
-      → (grows y (node s p c) ≡ true → n < room m) → Grown m (sink get put w k m n r q) path n r (node s p c) y (q .port)
+      → Holds w (L .get m) path r (node s p c) → Unique (L .get m) r (node s p c) → Below (L .get m) r (node s p c) n → 0 < n → n ≤ L .room m
+      → (grows y (node s p c) ≡ true → n < L .room m) → Grown m (sink L w k m n r q) path n r (node s p c) y (q .port)
 
   module _ (s : Bits) (p : ℕ) (c : Bool → Trie) (path : Bits) (m : S) (n r : ℕ) (q : Route) (y : Bits) (at : RouteAt w path q y)
-      (h : Holds w (get m) path r (node s p c)) (once : Unique (get m) r (node s p c)) (low : Below (get m) r (node s p c) n)
-      (pos : 0 < n) (lies : n ≤ room m) (fits : grows y (node s p c) ≡ true → n < room m) where
+      (h : Holds w (L .get m) path r (node s p c)) (once : Unique (L .get m) r (node s p c)) (low : Below (L .get m) r (node s p c) n)
+      (pos : 0 < n) (lies : n ≤ L .room m) (fits : grows y (node s p c) ≡ true → n < L .room m) where
     abbrev x : Row
-    x = get m r
+    x = L .get m r
 
     r-lt : r < n
-    r-lt = below-root (get m) r s p c n low
+    r-lt = below-root (L .get m) r s p c n low
 
-    r-fits : r < room m
+    r-fits : r < L .room m
     r-fits = omega (arith, r-lt)
 
     -- a row below a child is neither r nor n
-    not-r : (b : Bool) (i : ℕ) → 0 < times (get m) (child x b) (c b) i → i ≡ r → ⊥
-    not-r = below-not-root (get m) r s p c once
+    not-r : (b : Bool) (i : ℕ) → 0 < times (L .get m) (child x b) (c b) i → i ≡ r → ⊥
+    not-r = below-not-root (L .get m) r s p c once
 
-    not-n : (b : Bool) (i : ℕ) → 0 < times (get m) (child x b) (c b) i → i ≡ n → ⊥
-    not-n b i k e = let z : i < n = below-child (get m) r s p c n b low i k in omega arith
+    not-n : (b : Bool) (i : ℕ) → 0 < times (L .get m) (child x b) (c b) i → i ≡ n → ⊥
+    not-n b i k e = let z : i < n = below-child (L .get m) r s p c n b low i k in omega arith
 
     -- the prefix is held: its row gets the new port
-    grown-same : same y s ≡ true → Grown m (put m r (withRoute x q)) path n r (node s p c) y (q .port)
+    grown-same : same y s ≡ true → Grown m (L .put m r (withRoute x q)) path n r (node s p c) y (q .port)
     grown-same e =
-        let M′ : Mem = get (put m r (withRoute x q)) in
-        let row : withRoute x q ≡ M′ r = sym (st .get-same m r (withRoute x q) r-fits) in
-        let agree : ((b : Bool) → Agree (get m) M′ (child x b) (c b)) =
+        let M′ : Mem = L .get (L .put m r (withRoute x q)) in
+        let row : withRoute x q ≡ M′ r = sym (st .get-same m r (withRoute x q) r-fits (at .valid .prefix .fits)) in
+        let agree : ((b : Bool) → Agree (L .get m) M′ (child x b) (c b)) =
         (λ b i k. st .get-other m r i (withRoute x q) (not-r b i k)) in
         let new : Holds w M′ path r (node s (q .port) c) = record {
           valid = subst (λ (z : Row). ValidRoute w (routeOf z)) row (at .valid);
@@ -136,20 +136,20 @@ module _ {S : Type 0} (get : S → Mem) (put : S → ℕ → Row → S) (room : 
           below = λ b.
               subst (λ (j : ℕ). Names j (c b) × Holds w M′ (path ++ (b ∷ [])) j (c b))
               (sym (route-keeps x q b) ∙ ap (λ (z : Row). child z b) row)
-              (h .below b .0, holds-frame (get m) M′ w (path ++ (b ∷ [])) (child x b) (c b) (agree b) (h .below b .1));
+              (h .below b .0, holds-frame (L .get m) M′ w (path ++ (b ∷ [])) (child x b) (c b) (agree b) (h .below b .1));
         } in
-        let side : ((b : Bool) (i : ℕ) → times M′ (child (M′ r) b) (c b) i ≡ times (get m) (child x b) (c b) i) =
+        let side : ((b : Bool) (i : ℕ) → times M′ (child (M′ r) b) (c b) i ≡ times (L .get m) (child x b) (c b) i) =
         (λ b i.
         ap (λ (j : ℕ). times M′ j (c b) i) (sym (ap (λ (z : Row). child z b) row) ∙ route-keeps x q b)
-        ∙ times-frame (get m) M′ (child x b) (c b) i (agree b)) in
+        ∙ times-frame (L .get m) M′ (child x b) (c b) i (agree b)) in
         let is : node s (q .port) c ≡ insert y (q .port) (node s p c) = rw e in
         record {
           holds = subst (Holds w M′ path r) is new;
           reached = λ i.
-              let z : times M′ r (node s (q .port) c) i ≡ times (get m) r (node s p c) i + 0 =
+              let z : times M′ r (node s (q .port) c) i ≡ times (L .get m) r (node s p c) i + 0 =
               omega (arith, side false i, side true i) in
-              subst (λ (t : Trie). times M′ r t i ≡ times (get m) r (node s p c) i + cond (grows y (node s p c)) (hit n i) 0) is (rw e z);
-          frame = λ i none ne. st .get-other m r i (withRoute x q) (λ g. omega (arith, hit-same r, ap (times (get m) r (node s p c)) g));
+              subst (λ (t : Trie). times M′ r t i ≡ times (L .get m) r (node s p c) i + cond (grows y (node s p c)) (hit n i) 0) is (rw e z);
+          frame = λ i none ne. st .get-other m r i (withRoute x q) (λ g. omega (arith, hit-same r, ap (times (L .get m) r (node s p c)) g));
           rooms = st .room-put m r (withRoute x q);
         }
 
@@ -163,10 +163,10 @@ module _ {S : Type 0} (get : S → Mem) (put : S → ℕ → Row → S) (room : 
       D = pick o (routeOf x) q
 
       upper : RouteAt w path U (cond o y s)
-      upper = route-pick w path o q (routeOf x) y s at (route-row w (get m) path r s p c h)
+      upper = route-pick w path o q (routeOf x) y s at (route-row w (L .get m) path r s p c h)
 
       lower : RouteAt w path D (b ∷ z)
-      lower = subst (RouteAt w path D) goes (route-pick w path o (routeOf x) q s y (route-row w (get m) path r s p c h) at)
+      lower = subst (RouteAt w path D) goes (route-pick w path o (routeOf x) q s y (route-row w (L .get m) path r s p c h) at)
 
       lower-bit : bitBefore (D .value) k ≡ b
       lower-bit = at-bit w path (D .value) (D .len) k b z (at-of w path D (b ∷ z) lower) (sym deep)
@@ -185,16 +185,16 @@ module _ {S : Type 0} (get : S → Mem) (put : S → ℕ → Row → S) (room : 
       is-grows = rw (e, v, goes)
 
       -- put together from what became of side b
-      put-together : (m′ : S) (Y : Row) (c′ : ℕ) → get m′ r ≡ Y → routeOf Y ≡ U → child Y b ≡ c′ → child Y (not b) ≡ child x (not b)
-          → 0 < c′ → Holds w (get m′) (path ++ (b ∷ [])) c′ (insert z (D .port) (c b))
-          → ((i : ℕ) → times (get m′) c′ (insert z (D .port) (c b)) i ≡ times (get m) (child x b) (c b) i + cond (grows z (c b)) (hit n i) 0)
-          → Agree (get m) (get m′) (child x (not b)) (c (not b))
-          → ((i : ℕ) → times (get m) r (node s p c) i ≡ 0 → (grows y (node s p c) ≡ true → i ≡ n → ⊥) → get m′ i ≡ get m i)
-          → room m′ ≡ room m
+      put-together : (m′ : S) (Y : Row) (c′ : ℕ) → L .get m′ r ≡ Y → routeOf Y ≡ U → child Y b ≡ c′ → child Y (not b) ≡ child x (not b)
+          → 0 < c′ → Holds w (L .get m′) (path ++ (b ∷ [])) c′ (insert z (D .port) (c b))
+          → ((i : ℕ) → times (L .get m′) c′ (insert z (D .port) (c b)) i ≡ times (L .get m) (child x b) (c b) i + cond (grows z (c b)) (hit n i) 0)
+          → Agree (L .get m) (L .get m′) (child x (not b)) (c (not b))
+          → ((i : ℕ) → times (L .get m) r (node s p c) i ≡ 0 → (grows y (node s p c) ≡ true → i ≡ n → ⊥) → L .get m′ i ≡ L .get m i)
+          → L .room m′ ≡ L .room m
           → Grown m m′ path n r (node s p c) y (q .port)
       put-together m′ Y c′ row route own other some holds count same-side frame rooms =
-          let r-is : routeOf (get m′ r) ≡ U = ap routeOf row ∙ route in
-          let change : SideChanged w (get m) (get m′) path r (cond o y s) (U .port) c kids b c′ (insert z (D .port) (c b)) = record {
+          let r-is : routeOf (L .get m′ r) ≡ U = ap routeOf row ∙ route in
+          let change : SideChanged w (L .get m) (L .get m′) path r (cond o y s) (U .port) c kids b c′ (insert z (D .port) (c b)) = record {
             valid = subst (ValidRoute w) (sym r-is) (upper .valid);
             bits = ap (λ (g : Route). prefixBits w (g .value) (g .len)) r-is ∙ upper .is;
             port = ap (λ (g : Route). g .port) r-is;
@@ -208,45 +208,45 @@ module _ {S : Type 0} (get : S → Mem) (put : S → ℕ → Row → S) (room : 
           } in
           record {
             holds =
-                subst (Holds w (get m′) path r) (sym is-insert)
-                (side-holds w (get m) (get m′) path r s (cond o y s) p (U .port) c kids b c′ (insert z (D .port) (c b)) h change);
+                subst (Holds w (L .get m′) path r) (sym is-insert)
+                (side-holds w (L .get m) (L .get m′) path r s (cond o y s) p (U .port) c kids b c′ (insert z (D .port) (c b)) h change);
             reached = λ i.
-                let t : times (get m′) r (node (cond o y s) (U .port) kids) i ≡ times (get m) r (node s p c) i + cond (grows z (c b)) (hit n i) 0 =
-                omega (arith, side-times w (get m) (get m′) path r s (cond o y s) p (U .port) c kids b c′ (insert z (D .port) (c b)) h change i, count i) in
-                ap (λ (g : Trie). times (get m′) r g i) is-insert ∙ t
-                ∙ ap (λ (g : Bool). times (get m) r (node s p c) i + cond g (hit n i) 0) (sym is-grows);
+                let t : times (L .get m′) r (node (cond o y s) (U .port) kids) i ≡ times (L .get m) r (node s p c) i + cond (grows z (c b)) (hit n i) 0 =
+                omega (arith, side-times w (L .get m) (L .get m′) path r s (cond o y s) p (U .port) c kids b c′ (insert z (D .port) (c b)) h change i, count i) in
+                ap (λ (g : Trie). times (L .get m′) r g i) is-insert ∙ t
+                ∙ ap (λ (g : Bool). times (L .get m) r (node s p c) i + cond g (hit n i) 0) (sym is-grows);
             frame = frame;
             rooms = rooms;
           }
 
       -- no row on side b: D gets row n
       grown-leaf : c b ≡ leaf
-          → Grown m (put (put m r (withChild (withRoute x U) b n)) n (leafRow D)) path n r (node s p c) y (q .port)
+          → Grown m (L .put (L .put m r (withChild (withRoute x U) b n)) n (leafRow D)) path n r (node s p c) y (q .port)
       grown-leaf cb =
           let Y : Row = withChild (withRoute x U) b n in
-          let m₁ : S = put m r Y in
-          let m′ : S = put m₁ n (leafRow D) in
+          let m₁ : S = L .put m r Y in
+          let m′ : S = L .put m₁ n (leafRow D) in
           let new : grows y (node s p c) ≡ true = is-grows ∙ ap (grows z) cb in
-          let n-fits : n < room m₁ = rw (st .room-put m r Y) (fits new) in
-          let at-n : get m′ n ≡ leafRow D = st .get-same m₁ n (leafRow D) n-fits in
-          let at-r : get m′ r ≡ Y = st .get-other m₁ n r (leafRow D) (λ g. omega (arith, r-lt)) ∙ st .get-same m r Y r-fits in
+          let n-fits : n < L .room m₁ = rw (st .room-put m r Y) (fits new) in
+          let at-n : L .get m′ n ≡ leafRow D = st .get-same m₁ n (leafRow D) n-fits (lower .valid .prefix .fits) in
+          let at-r : L .get m′ r ≡ Y = st .get-other m₁ n r (leafRow D) (λ g. omega (arith, r-lt)) ∙ st .get-same m r Y r-fits (upper .valid .prefix .fits) in
           let down-at : RouteAt w (path ++ (b ∷ [])) D z = route-down w path D b z lower in
-          let leafs : Holds w (get m′) (path ++ (b ∷ [])) n (node z (D .port) (λ d. leaf)) = record {
+          let leafs : Holds w (L .get m′) (path ++ (b ∷ [])) n (node z (D .port) (λ d. leaf)) = record {
             valid = subst (λ (g : Row). ValidRoute w (routeOf g)) (sym at-n) (down-at .valid);
             bits = ap (λ (g : Row). prefixBits w (g .value) (g .len)) at-n ∙ down-at .is;
             port = ap (λ (g : Row). g .port) at-n;
             below = λ d. (ap (λ (g : Row). child g d) at-n ∙ no-child d, tt);
           } in
-          let none : ((i : ℕ) → times (get m) (child x b) (c b) i ≡ 0) = (λ i. ap (λ (t : Trie). times (get m) (child x b) t i) cb) in
+          let none : ((i : ℕ) → times (L .get m) (child x b) (c b) i ≡ 0) = (λ i. ap (λ (t : Trie). times (L .get m) (child x b) t i) cb) in
           put-together m′ Y n at-r refl (with-own (withRoute x U) b n) (with-other (withRoute x U) b n ∙ route-keeps x U (not b)) pos
-          (subst (λ (t : Trie). Holds w (get m′) (path ++ (b ∷ [])) n (insert z (D .port) t)) (sym cb) leafs)
+          (subst (λ (t : Trie). Holds w (L .get m′) (path ++ (b ∷ [])) n (insert z (D .port) t)) (sym cb) leafs)
           (λ i.
-          ap (λ (t : Trie). times (get m′) n (insert z (D .port) t) i) cb
+          ap (λ (t : Trie). times (L .get m′) n (insert z (D .port) t) i) cb
           ∙ (let g : hit n i + (0 + 0) ≡ 0 + hit n i = omega arith in g)
           ∙ ap₂ (λ (j : ℕ) (f : Bool). j + cond f (hit n i) 0) (sym (none i)) (sym (ap (grows z) cb)))
           (λ i g. st .get-other m₁ n i (leafRow D) (not-n (not b) i g) ∙ st .get-other m r i Y (not-r (not b) i g))
           (λ i g ne. st .get-other m₁ n i (leafRow D) (ne new)
-          ∙ st .get-other m r i Y (λ f. omega (arith, hit-same r, ap (times (get m) r (node s p c)) f)))
+          ∙ st .get-other m r i Y (λ f. omega (arith, hit-same r, ap (times (L .get m) r (node s p c)) f)))
           (st .room-put m₁ n (leafRow D) ∙ st .room-put m r Y)
         where
           no-child : (d : Bool) → child (leafRow D) d ≡ 0
@@ -255,27 +255,27 @@ module _ {S : Type 0} (get : S → Mem) (put : S → ℕ → Row → S) (room : 
 
       -- a row on side b: D sinks on from there
       grown-node : 0 < child x b
-          → Grown (put m r (withRoute x U)) (sink get put w k (put m r (withRoute x U)) n (child x b) D) (path ++ (b ∷ [])) n (child x b) (c b) z (D .port)
-          → Grown m (sink get put w k (put m r (withRoute x U)) n (child x b) D) path n r (node s p c) y (q .port)
+          → Grown (L .put m r (withRoute x U)) (sink L w k (L .put m r (withRoute x U)) n (child x b) D) (path ++ (b ∷ [])) n (child x b) (c b) z (D .port)
+          → Grown m (sink L w k (L .put m r (withRoute x U)) n (child x b) D) path n r (node s p c) y (q .port)
       grown-node some g =
           let Y : Row = withRoute x U in
-          let m₁ : S = put m r Y in
-          let m′ : S = sink get put w k m₁ n (child x b) D in
-          let agree : ((d : Bool) → Agree (get m) (get m₁) (child x d) (c d)) = (λ d i f. st .get-other m r i Y (not-r d i f)) in
-          let count : ((i : ℕ) → times (get m₁) (child x b) (c b) i ≡ times (get m) (child x b) (c b) i) =
-          (λ i. times-frame (get m) (get m₁) (child x b) (c b) i (agree b)) in
+          let m₁ : S = L .put m r Y in
+          let m′ : S = sink L w k m₁ n (child x b) D in
+          let agree : ((d : Bool) → Agree (L .get m) (L .get m₁) (child x d) (c d)) = (λ d i f. st .get-other m r i Y (not-r d i f)) in
+          let count : ((i : ℕ) → times (L .get m₁) (child x b) (c b) i ≡ times (L .get m) (child x b) (c b) i) =
+          (λ i. times-frame (L .get m) (L .get m₁) (child x b) (c b) i (agree b)) in
           put-together m′ Y (child x b)
-          (g .frame r (count r ∙ root-not-below (get m) r s p c once b) (λ _ f. omega (arith, r-lt)) ∙ st .get-same m r Y r-fits)
+          (g .frame r (count r ∙ root-not-below (L .get m) r s p c once b) (λ _ f. omega (arith, r-lt)) ∙ st .get-same m r Y r-fits (upper .valid .prefix .fits))
           refl (route-keeps x U b) (route-keeps x U (not b)) some (g .holds)
           (λ i. g .reached i ∙ ap (λ (j : ℕ). j + cond (grows z (c b)) (hit n i) 0) (count i))
-          (λ i f. g .frame i (count i ∙ sides-apart (get m) r s p c once b i f) (λ _. not-n (not b) i f) ∙ agree (not b) i f)
+          (λ i f. g .frame i (count i ∙ sides-apart (L .get m) r s p c once b i f) (λ _. not-n (not b) i f) ∙ agree (not b) i f)
           (λ i f ne.
-          g .frame i (count i ∙ (let j : times (get m) (child x b) (c b) i ≡ 0 = omega (arith, times-child (get m) r s p c b i) in j)) (λ e. ne (is-grows ∙ e))
-          ∙ st .get-other m r i Y (λ d. omega (arith, hit-same r, ap (times (get m) r (node s p c)) d)))
+          g .frame i (count i ∙ (let j : times (L .get m) (child x b) (c b) i ≡ 0 = omega (arith, times-child (L .get m) r s p c b i) in j)) (λ e. ne (is-grows ∙ e))
+          ∙ st .get-other m r i Y (λ d. omega (arith, hit-same r, ap (times (L .get m) r (node s p c)) d)))
           (g .rooms ∙ st .room-put m r Y)
 
       abbrev stepped : Bool → S
-      stepped d = sinkBy get put w m n r U D d (λ m′ j. sink get put w k m′ n j D)
+      stepped d = sinkBy L w m n r U D d (λ m′ j. sink L w k m′ n j D)
 
       grown-by : (t : Trie) → c b ≡ t → Grows t → Grown m (stepped b) path n r (node s p c) y (q .port)
       grown-by leaf cb g =
@@ -284,22 +284,22 @@ module _ {S : Type 0} (get : S → Mem) (put : S → ℕ → Row → S) (room : 
       grown-by (node s₁ p₁ c₁) cb g =
           let some : 0 < child x b = subst (Names (child x b)) cb (h .below b .0) in
           let Y : Row = withRoute x U in
-          let m₁ : S = put m r Y in
-          let agree : Agree (get m) (get m₁) (child x b) (c b) = (λ i f. st .get-other m r i Y (not-r b i f)) in
+          let m₁ : S = L .put m r Y in
+          let agree : Agree (L .get m) (L .get m₁) (child x b) (c b) = (λ i f. st .get-other m r i Y (not-r b i f)) in
           let deeper : length (path ++ (b ∷ [])) + k ≡ w = omega (arith, length-append path (b ∷ []), deep) in
-          let held : Holds w (get m₁) (path ++ (b ∷ [])) (child x b) (c b) =
-          holds-frame (get m) (get m₁) w (path ++ (b ∷ [])) (child x b) (c b) agree (h .below b .1) in
-          let count : ((i : ℕ) → times (get m₁) (child x b) (c b) i ≡ times (get m) (child x b) (c b) i) =
-          (λ i. times-frame (get m) (get m₁) (child x b) (c b) i agree) in
-          let one : Unique (get m₁) (child x b) (c b) = (λ i. omega (arith, count i, unique-child (get m) r s p c once b i)) in
-          let few : Below (get m₁) (child x b) (c b) n =
-          (λ i f. below-child (get m) r s p c n b low i (omega (arith, count i))) in
-          let grown : Grown m₁ (sink get put w k m₁ n (child x b) D) (path ++ (b ∷ [])) n (child x b) (c b) z (D .port) =
-          subst (λ (t : Trie). Grown m₁ (sink get put w k m₁ n (child x b) D) (path ++ (b ∷ [])) n (child x b) t z (D .port)) (sym cb)
+          let held : Holds w (L .get m₁) (path ++ (b ∷ [])) (child x b) (c b) =
+          holds-frame (L .get m) (L .get m₁) w (path ++ (b ∷ [])) (child x b) (c b) agree (h .below b .1) in
+          let count : ((i : ℕ) → times (L .get m₁) (child x b) (c b) i ≡ times (L .get m) (child x b) (c b) i) =
+          (λ i. times-frame (L .get m) (L .get m₁) (child x b) (c b) i agree) in
+          let one : Unique (L .get m₁) (child x b) (c b) = (λ i. omega (arith, count i, unique-child (L .get m) r s p c once b i)) in
+          let few : Below (L .get m₁) (child x b) (c b) n =
+          (λ i f. below-child (L .get m) r s p c n b low i (omega (arith, count i))) in
+          let grown : Grown m₁ (sink L w k m₁ n (child x b) D) (path ++ (b ∷ [])) n (child x b) (c b) z (D .port) =
+          subst (λ (t : Trie). Grown m₁ (sink L w k m₁ n (child x b) D) (path ++ (b ∷ [])) n (child x b) t z (D .port)) (sym cb)
           (g k (path ++ (b ∷ [])) m₁ n (child x b) D z deeper (route-down w path D b z lower)
-          (subst (Holds w (get m₁) (path ++ (b ∷ [])) (child x b)) cb held)
-          (subst (Unique (get m₁) (child x b)) cb one)
-          (subst (λ (t : Trie). Below (get m₁) (child x b) t n) cb few)
+          (subst (Holds w (L .get m₁) (path ++ (b ∷ [])) (child x b)) cb held)
+          (subst (Unique (L .get m₁) (child x b)) cb one)
+          (subst (λ (t : Trie). Below (L .get m₁) (child x b) t n) cb few)
           pos (rw (st .room-put m r Y) lies) (λ f. rw (st .room-put m r Y) (fits (is-grows ∙ ap (grows z) cb ∙ f)))) in
           subst (λ (j : S). Grown m j path n r (node s p c) y (q .port)) (sym (rw (ne-eqb (child x b) 0 (λ f. omega arith)))) (grown-node some grown)
 
@@ -312,14 +312,14 @@ module _ {S : Type 0} (get : S → Mem) (put : S → ℕ → Row → S) (room : 
     unfolding sink
     grow-node zero path m n r q y deep at h once low pos lies fits =
         let e : same y s ≡ true =
-        at-last w path (q .value) (q .len) (get m r .value) (get m r .len) y s deep (at-of w path q y at) (row-at w (get m) path r s p c h) in
-        let t : isSame q (get m r) ≡ true =
-        sym (at-same w path (q .value) (q .len) (get m r .value) (get m r .len) y s (at-of w path q y at) (row-at w (get m) path r s p c h)) ∙ e in
+        at-last w path (q .value) (q .len) (L .get m r .value) (L .get m r .len) y s deep (at-of w path q y at) (row-at w (L .get m) path r s p c h) in
+        let t : isSame q (L .get m r) ≡ true =
+        sym (at-same w path (q .value) (q .len) (L .get m r .value) (L .get m r .len) y s (at-of w path q y at) (row-at w (L .get m) path r s p c h)) ∙ e in
         subst (λ (j : S). Grown m j path n r (node s p c) y (q .port)) (sym (rw t)) (grown-same s p c path m n r q y at h once low pos lies fits e)
     grow-node (suc k) path m n r q y deep at h once low pos lies fits = by (same y s) refl
       where
         x : Row
-        x = get m r
+        x = L .get m r
 
         D : Bool → Route
         D o = pick o (routeOf x) q
@@ -328,18 +328,18 @@ module _ {S : Type 0} (get : S → Mem) (put : S → ℕ → Row → S) (room : 
         U o = pick o q (routeOf x)
 
         is-same : same y s ≡ isSame q x
-        is-same = at-same w path (q .value) (q .len) (x .value) (x .len) y s (at-of w path q y at) (row-at w (get m) path r s p c h)
+        is-same = at-same w path (q .value) (q .len) (x .value) (x .len) y s (at-of w path q y at) (row-at w (L .get m) path r s p c h)
 
         depth : w - suc k ≡ length path
         depth = omega arith
 
         is-over : over y s ≡ isOver (w - suc k) q x
         is-over =
-            at-over w path (q .value) (q .len) (x .value) (x .len) y s (at-of w path q y at) (row-at w (get m) path r s p c h)
+            at-over w path (q .value) (q .len) (x .value) (x .len) y s (at-of w path q y at) (row-at w (L .get m) path r s p c h)
             ∙ ap (λ (d : ℕ). isOver d q x) (sym depth)
 
         pick-step : Bool → S
-        pick-step o = sinkBy get put w m n r (U o) (D o) (bitBefore (D o .value) k) (λ m′ j. sink get put w k m′ n j (D o))
+        pick-step o = sinkBy L w m n r (U o) (D o) (bitBefore (D o .value) k) (λ m′ j. sink L w k m′ n j (D o))
 
         on : same y s ≡ false → (o : Bool) → over y s ≡ o → (d : Bits) → cond o s y ≡ d → (d ≡ [] → ⊥)
             → Grown m (pick-step o) path n r (node s p c) y (q .port)
@@ -347,7 +347,7 @@ module _ {S : Type 0} (get : S → Mem) (put : S → ℕ → Row → S) (room : 
         on e o v (b ∷ z) f ne = grown-down s p c path m n r q y at h once low pos lies fits k deep ih e o v b z f
 
         by : (a : Bool) → same y s ≡ a
-            → Grown m (cond (isSame q x) (put m r (withRoute x q)) (pick-step (isOver (w - suc k) q x))) path n r (node s p c) y (q .port)
+            → Grown m (cond (isSame q x) (L .put m r (withRoute x q)) (pick-step (isOver (w - suc k) q x))) path n r (node s p c) y (q .port)
         by true e =
             subst (λ (j : S). Grown m j path n r (node s p c) y (q .port)) (sym (rw (sym is-same ∙ e)))
             (grown-same s p c path m n r q y at h once low pos lies fits e)

@@ -3,7 +3,7 @@ use mathlib.Core.Path.{_≡_, refl, sym, ap, ap₂, _∙_, subst, subst₂}
 use mathlib.Core.Logic.{_⊎_, inl, inr, ⊎-elim}
 use mathlib.Core.Bool.{Bool, true, false, cond, not}
 use mathlib.Core.List.{List, [], _∷_, _++_, append-assoc}
-use Prim.Native.Nat.{ℕ, zero, suc, _+_, _-_, _<_, _≤_}
+use Prim.Native.Nat.{ℕ, zero, suc, _+_, _-_, _<_, _≤_, _^_}
 use native.Mathlib.Omega.{arith}
 use lib.Dec.{eqb}
 use lib.ListN.{length, length-append}
@@ -14,7 +14,7 @@ use Rattle.bits.proofs.Tests.{way}
 use Rattle.trie.specs.Trie.{Trie, leaf, node}
 use Rattle.routes.specs.Routes.{ValidRoute}
 use Rattle.routes.specs.declared.Route.{Route}
-use Rattle.cells.specs.Rows.{Mem, Stores, child, routeOf, rowBits, withChild}
+use Rattle.cells.specs.Rows.{Mem, Layout, Stores, child, routeOf, rowBits, withChild}
 use Rattle.cells.specs.Holds.{Names, RowHolds, Holds, hit, times}
 use Rattle.cells.specs.Lookup.{bitBefore}
 use Rattle.cells.specs.Withdraw.{relink}
@@ -80,69 +80,70 @@ module _ (w : ℕ) (M Z : Mem) (last f : ℕ) where
       (λ b. ap (λ (y : Row). times Z (child y b) (c b) i) e ∙ times-frame M Z (child (M last) b) (c b) i (agree b)) in
       omega (arith, side false, side true)
 
-module _ {S : Type 0} (get : S → Mem) (put : S → ℕ → Row → S) (room : S → ℕ) (st : Stores get put room) (w : ℕ)
+module _ {S : Type 0} (L : Layout S) (w : ℕ) (st : Stores w L)
     (m : S) (last f : ℕ) (free : 0 < f) (apart : f ≡ last → ⊥) where
   -- the rows hold the same trie, with f in place of `last`
   pub record Moved (Z : Mem) (path : Bits) (r : ℕ) (t : Trie) : Type 0 where
     pub holds : Holds w Z path r t
-    pub reached : (i : ℕ) → times Z r t i + hit last i ≡ times (get m) r t i + hit f i
+    pub reached : (i : ℕ) → times Z r t i + hit last i ≡ times (L .get m) r t i + hit f i
 
   -- Z is what became of the rows s′ once row `last` is copied to f
   pub record Copied (Z : Mem) (s′ : S) : Type 0 where
-    pub copy : Z f ≡ get s′ last
-    pub rest : (i : ℕ) → (i ≡ f → ⊥) → (i ≡ last → ⊥) → Z i ≡ get s′ i
+    pub copy : Z f ≡ L .get s′ last
+    pub rest : (i : ℕ) → (i ≡ f → ⊥) → (i ≡ last → ⊥) → Z i ≡ L .get s′ i
 
   abbrev v : ℕ
-  v = get m last .value
+  v = L .get m last .value
 
   pub record Relinked (s′ : S) (path : Bits) (r : ℕ) (t : Trie) : Type 0 where
-    pub frame : (i : ℕ) → times (get m) r t i ≡ 0 → get s′ i ≡ get m i
-    pub rooms : room s′ ≡ room m
+    pub frame : (i : ℕ) → times (L .get m) r t i ≡ 0 → L .get s′ i ≡ L .get m i
+    pub rooms : L .room s′ ≡ L .room m
+    pub low : L .get s′ last .value < 2 ^ w
     pub moved : (Z : Mem) → Copied Z s′ → Moved Z path r t
 
   abbrev Relinks : Trie → Type 0
   Relinks leaf = Unit {0}
   Relinks (node s p c) =
-      (k : ℕ) (path : Bits) (r : ℕ) → length path + k ≡ w → Holds w (get m) path r (node s p c) → Unique (get m) r (node s p c)
-      → ((i : ℕ) → 0 < times (get m) r (node s p c) i → i < room m) → 0 < times (get m) r (node s p c) last → (r ≡ last → ⊥)
-      → times (get m) r (node s p c) f ≡ 0 → Relinked (relink get put w k m r v last f) path r (node s p c)
+      (k : ℕ) (path : Bits) (r : ℕ) → length path + k ≡ w → Holds w (L .get m) path r (node s p c) → Unique (L .get m) r (node s p c)
+      → ((i : ℕ) → 0 < times (L .get m) r (node s p c) i → i < L .room m) → 0 < times (L .get m) r (node s p c) last → (r ≡ last → ⊥)
+      → times (L .get m) r (node s p c) f ≡ 0 → Relinked (relink L w k m r v last f) path r (node s p c)
 
   module _ (s : Bits) (p : ℕ) (c : Bool → Trie) (k : ℕ) (path : Bits) (r : ℕ) (deep : length path + suc k ≡ w)
-      (h : Holds w (get m) path r (node s p c)) (once : Unique (get m) r (node s p c))
-      (lies : (i : ℕ) → 0 < times (get m) r (node s p c) i → i < room m) (ne : r ≡ last → ⊥) (off : times (get m) r (node s p c) f ≡ 0)
-      (b : Bool) (there : 0 < times (get m) (child (get m r) b) (c b) last) where
+      (h : Holds w (L .get m) path r (node s p c)) (once : Unique (L .get m) r (node s p c))
+      (lies : (i : ℕ) → 0 < times (L .get m) r (node s p c) i → i < L .room m) (ne : r ≡ last → ⊥) (off : times (L .get m) r (node s p c) f ≡ 0)
+      (b : Bool) (there : 0 < times (L .get m) (child (L .get m r) b) (c b) last) where
     abbrev x : Row
-    x = get m r
+    x = L .get m r
 
-    r-lies : r < room m
+    r-lies : r < L .room m
     r-lies = lies r (omega (arith, hit-same r))
 
     r-not-f : r ≡ f → ⊥
-    r-not-f e = omega (arith, hit-same r, ap (times (get m) r (node s p c)) e)
+    r-not-f e = omega (arith, hit-same r, ap (times (L .get m) r (node s p c)) e)
 
     side-bit : bitBefore v k ≡ b
     side-bit =
-        let d = reached-at w (get m) (path ++ (b ∷ [])) (child x b) (c b) last (h .below b .1) there in
-        bit-at path w k (get m last .len) v b (d .rest) (d .is ∙ append-assoc path (b ∷ []) (d .rest)) (sym deep)
+        let d = reached-at w (L .get m) (path ++ (b ∷ [])) (child x b) (c b) last (h .below b .1) there in
+        bit-at path w k (L .get m last .len) v b (d .rest) (d .is ∙ append-assoc path (b ∷ []) (d .rest)) (sym deep)
 
-    below-not-r : (d : Bool) (i : ℕ) → 0 < times (get m) (child x d) (c d) i → i ≡ r → ⊥
-    below-not-r = below-not-root (get m) r s p c once
+    below-not-r : (d : Bool) (i : ℕ) → 0 < times (L .get m) (child x d) (c d) i → i ≡ r → ⊥
+    below-not-r = below-not-root (L .get m) r s p c once
 
-    below-not-f : (d : Bool) (i : ℕ) → 0 < times (get m) (child x d) (c d) i → i ≡ f → ⊥
-    below-not-f d i g e = omega (arith, times-child (get m) r s p c d i, ap (times (get m) r (node s p c)) e)
+    below-not-f : (d : Bool) (i : ℕ) → 0 < times (L .get m) (child x d) (c d) i → i ≡ f → ⊥
+    below-not-f d i g e = omega (arith, times-child (L .get m) r s p c d i, ap (times (L .get m) r (node s p c)) e)
 
-    other-not-last : (i : ℕ) → 0 < times (get m) (child x (not b)) (c (not b)) i → i ≡ last → ⊥
+    other-not-last : (i : ℕ) → 0 < times (L .get m) (child x (not b)) (c (not b)) i → i ≡ last → ⊥
     other-not-last i g e =
-        let z : times (get m) (child x b) (c b) i ≡ 0 = sides-apart (get m) r s p c once b i g in
-        omega (arith, ap (times (get m) (child x b) (c b)) e)
+        let z : times (L .get m) (child x b) (c b) i ≡ 0 = sides-apart (L .get m) r s p c once b i g in
+        omega (arith, ap (times (L .get m) (child x b) (c b)) e)
 
     -- put together from what became of side b
     put-together : (Z : Mem) (c′ : ℕ) → routeOf (Z r) ≡ routeOf x → child (Z r) b ≡ c′ → child (Z r) (not b) ≡ child x (not b)
         → Names c′ (c b) → Holds w Z (path ++ (b ∷ [])) c′ (c b)
-        → ((i : ℕ) → times Z c′ (c b) i + hit last i ≡ times (get m) (child x b) (c b) i + hit f i)
-        → Agree (get m) Z (child x (not b)) (c (not b)) → Moved Z path r (node s p c)
+        → ((i : ℕ) → times Z c′ (c b) i + hit last i ≡ times (L .get m) (child x b) (c b) i + hit f i)
+        → Agree (L .get m) Z (child x (not b)) (c (not b)) → Moved Z path r (node s p c)
     put-together Z c′ route own other named holds count same-side =
-        let change : SideChanged w (get m) Z path r s p c c b c′ (c b) = record {
+        let change : SideChanged w (L .get m) Z path r s p c c b c′ (c b) = record {
           valid = subst (ValidRoute w) (sym route) (h .valid);
           bits = ap (λ (q : Route). prefixBits w (q .value) (q .len)) route ∙ h .bits;
           port = ap (λ (q : Route). q .port) route ∙ h .port;
@@ -155,99 +156,104 @@ module _ {S : Type 0} (get : S → Mem) (put : S → ℕ → Row → S) (room : 
           other-same = same-side;
         } in
         record {
-          holds = side-holds w (get m) Z path r s s p p c c b c′ (c b) h change;
-          reached = λ i. omega (arith, side-times w (get m) Z path r s s p p c c b c′ (c b) h change i, count i);
+          holds = side-holds w (L .get m) Z path r s s p p c c b c′ (c b) h change;
+          reached = λ i. omega (arith, side-times w (L .get m) Z path r s s p p c c b c′ (c b) h change i, count i);
         }
 
     -- the child is the row that moves
-    relinked-here : child x b ≡ last → Relinked (put m r (withChild x b f)) path r (node s p c)
+    relinked-here : child x b ≡ last → Relinked (L .put m r (withChild x b f)) path r (node s p c)
     relinked-here e = by (c b) refl
       where
         Y : Row
         Y = withChild x b f
 
         s′ : S
-        s′ = put m r Y
+        s′ = L .put m r Y
 
         by : (t : Trie) → c b ≡ t → Relinked s′ path r (node s p c)
-        by leaf cb = absurd (omega (arith, ap (λ (t : Trie). times (get m) (child x b) t last) cb, there))
+        by leaf cb = absurd (omega (arith, ap (λ (t : Trie). times (L .get m) (child x b) t last) cb, there))
         by (node s₁ p₁ c₁) cb = record {
-          frame = λ i g. st .get-other m r i Y (λ z. omega (arith, hit-same r, ap (times (get m) r (node s p c)) z));
+          frame = λ i g. st .get-other m r i Y (λ z. omega (arith, hit-same r, ap (times (L .get m) r (node s p c)) z));
           rooms = st .room-put m r Y;
+          low = low;
           moved = λ Z z. placed Z z;
         }
           where
-            held : Holds w (get m) (path ++ (b ∷ [])) last (node s₁ p₁ c₁)
-            held = subst₂ (λ (j : ℕ) (t : Trie). Holds w (get m) (path ++ (b ∷ [])) j t) e cb (h .below b .1)
+            held : Holds w (L .get m) (path ++ (b ∷ [])) last (node s₁ p₁ c₁)
+            held = subst₂ (λ (j : ℕ) (t : Trie). Holds w (L .get m) (path ++ (b ∷ [])) j t) e cb (h .below b .1)
 
-            count : (i : ℕ) → times (get m) (child x b) (c b) i ≡ times (get m) last (node s₁ p₁ c₁) i
-            count i = ap₂ (λ (j : ℕ) (t : Trie). times (get m) j t i) e cb
+            low : L .get s′ last .value < 2 ^ w
+            low = subst (λ (g : Row). g .value < 2 ^ w) (sym (st .get-other m r last Y (λ g. ne (sym g)))) (held .valid .prefix .fits)
 
-            one : Unique (get m) last (node s₁ p₁ c₁)
-            one i = omega (arith, count i, unique-child (get m) r s p c once b i)
+            count : (i : ℕ) → times (L .get m) (child x b) (c b) i ≡ times (L .get m) last (node s₁ p₁ c₁) i
+            count i = ap₂ (λ (j : ℕ) (t : Trie). times (L .get m) j t i) e cb
+
+            one : Unique (L .get m) last (node s₁ p₁ c₁)
+            one i = omega (arith, count i, unique-child (L .get m) r s p c once b i)
 
             placed : (Z : Mem) → Copied Z s′ → Moved Z path r (node s p c)
             placed Z z =
-                let at-r : Z r ≡ Y = z .rest r r-not-f ne ∙ st .get-same m r Y r-lies in
-                let at-f : Z f ≡ get m last = z .copy ∙ st .get-other m r last Y (λ g. ne (sym g)) in
-                let deeper : ((d : Bool) → Agree (get m) Z (child (get m last) d) (c₁ d)) =
+                let at-r : Z r ≡ Y = z .rest r r-not-f ne ∙ st .get-same m r Y r-lies (h .valid .prefix .fits) in
+                let at-f : Z f ≡ L .get m last = z .copy ∙ st .get-other m r last Y (λ g. ne (sym g)) in
+                let deeper : ((d : Bool) → Agree (L .get m) Z (child (L .get m last) d) (c₁ d)) =
                 (λ d i g.
-                let up : 0 < times (get m) (child x b) (c b) i = omega (arith, count i, times-child (get m) last s₁ p₁ c₁ d i) in
+                let up : 0 < times (L .get m) (child x b) (c b) i = omega (arith, count i, times-child (L .get m) last s₁ p₁ c₁ d i) in
                 let not-last : (i ≡ last → ⊥) =
-                (λ q. omega (arith, root-not-below (get m) last s₁ p₁ c₁ one d, ap (times (get m) (child (get m last) d) (c₁ d)) q)) in
+                (λ q. omega (arith, root-not-below (L .get m) last s₁ p₁ c₁ one d, ap (times (L .get m) (child (L .get m last) d) (c₁ d)) q)) in
                 z .rest i (below-not-f b i up) not-last ∙ st .get-other m r i Y (below-not-r b i up)) in
                 put-together Z f (ap routeOf at-r) (ap (λ (g : Row). child g b) at-r ∙ with-own x b f)
                 (ap (λ (g : Row). child g (not b)) at-r ∙ with-other x b f)
                 (subst (Names f) (sym cb) free)
-                (subst (Holds w Z (path ++ (b ∷ [])) f) (sym cb) (holds-moved w (get m) Z last f (path ++ (b ∷ [])) s₁ p₁ c₁ at-f deeper held))
-                (λ i. ap (λ (t : Trie). times Z f t i + hit last i) cb ∙ times-moved w (get m) Z last f s₁ p₁ c₁ at-f deeper i ∙ ap (λ (j : ℕ). j + hit f i) (sym (count i)))
+                (subst (Holds w Z (path ++ (b ∷ [])) f) (sym cb) (holds-moved w (L .get m) Z last f (path ++ (b ∷ [])) s₁ p₁ c₁ at-f deeper held))
+                (λ i. ap (λ (t : Trie). times Z f t i + hit last i) cb ∙ times-moved w (L .get m) Z last f s₁ p₁ c₁ at-f deeper i ∙ ap (λ (j : ℕ). j + hit f i) (sym (count i)))
                 (λ i g. z .rest i (below-not-f (not b) i g) (other-not-last i g) ∙ st .get-other m r i Y (below-not-r (not b) i g))
 
     -- the row that moves is further down
     relinked-on : (s′ : S) → Relinked s′ (path ++ (b ∷ [])) (child x b) (c b) → Relinked s′ path r (node s p c)
     relinked-on s′ g = record {
-      frame = λ i d. g .frame i (omega (arith, times-child (get m) r s p c b i));
+      frame = λ i d. g .frame i (omega (arith, times-child (L .get m) r s p c b i));
       rooms = g .rooms;
+      low = g .low;
       moved = λ Z z.
-          let at-r : Z r ≡ x = z .rest r r-not-f ne ∙ g .frame r (root-not-below (get m) r s p c once b) in
+          let at-r : Z r ≡ x = z .rest r r-not-f ne ∙ g .frame r (root-not-below (L .get m) r s p c once b) in
           let q = g .moved Z z in
           put-together Z (child x b) (ap routeOf at-r) (ap (λ (d : Row). child d b) at-r) (ap (λ (d : Row). child d (not b)) at-r) (h .below b .0)
           (q .holds) (q .reached)
-          (λ i d. z .rest i (below-not-f (not b) i d) (other-not-last i d) ∙ g .frame i (sides-apart (get m) r s p c once b i d));
+          (λ i d. z .rest i (below-not-f (not b) i d) (other-not-last i d) ∙ g .frame i (sides-apart (L .get m) r s p c once b i d));
     }
 
   module _ (s : Bits) (p : ℕ) (c : Bool → Trie) (ih : (b : Bool) → Relinks (c b)) where
     relink-node : Relinks (node s p c)
     unfolding relink
-    relink-node zero path r deep h once lies there ne off = absurd (none (through (get m) r s p c last there))
+    relink-node zero path r deep h once lies there ne off = absurd (none (through (L .get m) r s p c last there))
       where
-        none : (last ≡ r) ⊎ ((b : Bool) × (0 < times (get m) (child (get m r) b) (c b) last)) → ⊥
+        none : (last ≡ r) ⊎ ((b : Bool) × (0 < times (L .get m) (child (L .get m r) b) (c b) last)) → ⊥
         none (inl e) = ne (sym e)
         none (inr g) =
-            let j : ℕ = child (get m r) (g .0) in
-            let e : c (g .0) ≡ leaf = too-deep w (get m) path j (g .0) (c (g .0)) deep (h .below (g .0) .1) in
-            omega (arith, ap (λ (t : Trie). times (get m) j t last) e, g .1)
-    relink-node (suc k) path r deep h once lies there ne off = by (through (get m) r s p c last there)
+            let j : ℕ = child (L .get m r) (g .0) in
+            let e : c (g .0) ≡ leaf = too-deep w (L .get m) path j (g .0) (c (g .0)) deep (h .below (g .0) .1) in
+            omega (arith, ap (λ (t : Trie). times (L .get m) j t last) e, g .1)
+    relink-node (suc k) path r deep h once lies there ne off = by (through (L .get m) r s p c last there)
       where
         x : Row
-        x = get m r
+        x = L .get m r
 
         stepped : Bool → S
-        stepped d = cond (eqb (child x d) last) (put m r (withChild x d f)) (relink get put w k m (child x d) v last f)
+        stepped d = cond (eqb (child x d) last) (L .put m r (withChild x d f)) (relink L w k m (child x d) v last f)
 
-        on : (b : Bool) → 0 < times (get m) (child x b) (c b) last → Relinked (stepped b) path r (node s p c)
+        on : (b : Bool) → 0 < times (L .get m) (child x b) (c b) last → Relinked (stepped b) path r (node s p c)
         on b g = at (way (eqb (child x b) last))
           where
-            down : (t : Trie) → c b ≡ t → Relinks t → (child x b ≡ last → ⊥) → Relinked (relink get put w k m (child x b) v last f) (path ++ (b ∷ [])) (child x b) (c b)
-            down leaf cb i n = absurd (omega (arith, ap (λ (t : Trie). times (get m) (child x b) t last) cb, g))
+            down : (t : Trie) → c b ≡ t → Relinks t → (child x b ≡ last → ⊥) → Relinked (relink L w k m (child x b) v last f) (path ++ (b ∷ [])) (child x b) (c b)
+            down leaf cb i n = absurd (omega (arith, ap (λ (t : Trie). times (L .get m) (child x b) t last) cb, g))
             down (node s₁ p₁ c₁) cb i n =
-                subst (λ (t : Trie). Relinked (relink get put w k m (child x b) v last f) (path ++ (b ∷ [])) (child x b) t) (sym cb)
+                subst (λ (t : Trie). Relinked (relink L w k m (child x b) v last f) (path ++ (b ∷ [])) (child x b) t) (sym cb)
                 (i k (path ++ (b ∷ [])) (child x b) (omega (arith, length-append path (b ∷ []), deep))
-                (subst (Holds w (get m) (path ++ (b ∷ [])) (child x b)) cb (h .below b .1))
-                (subst (Unique (get m) (child x b)) cb (unique-child (get m) r s p c once b))
-                (subst (λ (t : Trie). (j : ℕ) → 0 < times (get m) (child x b) t j → j < room m) cb (λ j d. lies j (omega (arith, times-child (get m) r s p c b j))))
-                (subst (λ (t : Trie). 0 < times (get m) (child x b) t last) cb g) n
-                (subst (λ (t : Trie). times (get m) (child x b) t f ≡ 0) cb (omega (arith, times-child (get m) r s p c b f, off))))
+                (subst (Holds w (L .get m) (path ++ (b ∷ [])) (child x b)) cb (h .below b .1))
+                (subst (Unique (L .get m) (child x b)) cb (unique-child (L .get m) r s p c once b))
+                (subst (λ (t : Trie). (j : ℕ) → 0 < times (L .get m) (child x b) t j → j < L .room m) cb (λ j d. lies j (omega (arith, times-child (L .get m) r s p c b j))))
+                (subst (λ (t : Trie). 0 < times (L .get m) (child x b) t last) cb g) n
+                (subst (λ (t : Trie). times (L .get m) (child x b) t f ≡ 0) cb (omega (arith, times-child (L .get m) r s p c b f, off))))
 
             at : (eqb (child x b) last ≡ true) ⊎ (eqb (child x b) last ≡ false) → Relinked (stepped b) path r (node s p c)
             at (inl e) =
@@ -255,9 +261,9 @@ module _ {S : Type 0} (get : S → Mem) (put : S → ℕ → Row → S) (room : 
                 (relinked-here s p c k path r deep h once lies ne off b g (eqb-true (child x b) last e))
             at (inr e) =
                 subst (λ (y : S). Relinked y path r (node s p c)) (sym (rw e))
-                (relinked-on s p c k path r deep h once lies ne off b g (relink get put w k m (child x b) v last f) (down (c b) refl (ih b) (eqb-false (child x b) last e)))
+                (relinked-on s p c k path r deep h once lies ne off b g (relink L w k m (child x b) v last f) (down (c b) refl (ih b) (eqb-false (child x b) last e)))
 
-        by : (last ≡ r) ⊎ ((b : Bool) × (0 < times (get m) (child x b) (c b) last)) → Relinked (stepped (bitBefore v k)) path r (node s p c)
+        by : (last ≡ r) ⊎ ((b : Bool) × (0 < times (L .get m) (child x b) (c b) last)) → Relinked (stepped (bitBefore v k)) path r (node s p c)
         by (inl e) = absurd (ne (sym e))
         by (inr g) =
             subst (λ (d : Bool). Relinked (stepped d) path r (node s p c)) (sym (side-bit s p c k path r deep h once lies ne off (g .0) (g .1)))

@@ -5,6 +5,7 @@ use mathlib.Core.Bool.{Bool, true, false, cond, not, _&&_, true≢false, false�
 use mathlib.Core.List.{List, [], _∷_, _++_}
 use Prim.Native.Nat.{ℕ, zero, suc, _+_, _-_, _<_, _≤_}
 use native.Mathlib.Omega.{arith}
+use lib.Pow.{pow-pos}
 use lib.Dec.{eqb, ltb}
 use lib.ListN.{length, length-append}
 use borrow.Author.Tests.{eq-eqb, ne-eqb, eqb-true, eqb-false, lt-ltb, le-ltb, ltb-true, ltb-false}
@@ -22,7 +23,7 @@ use Rattle.trie.proofs.Insert.{insert-is, grows-is}
 use Rattle.trie.proofs.Remove.{own-out, remove-is}
 use Rattle.routes.specs.Routes.{ValidRoute}
 use Rattle.routes.specs.declared.Route.{Route}
-use Rattle.cells.specs.Rows.{Mem, Stores, child, routeOf, leafRow}
+use Rattle.cells.specs.Rows.{Mem, Layout, Stores, child, routeOf, leafRow}
 use Rattle.cells.specs.Holds.{Names, RowHolds, Holds, hit, times, Placed}
 use Rattle.cells.specs.Lookup.{bitBefore}
 use Rattle.cells.specs.Announce.{isSame, isOver, heldAt, isHeld, sink, announced}
@@ -179,8 +180,8 @@ held-is w M n S q good ok = by (good .trie) (good .rule) (good .holds) (good .on
 
 -- announcements
 
-module _ (X : Type 0) (get : X → Mem) (put : X → ℕ → Row → X) (room : X → ℕ) (st : Stores get put room)
-    (w : ℕ) (m : X) (n : ℕ) (S : Routes) (q : Route) (ok : ValidRoute w q) (lies : n ≤ room m) where
+module _ (X : Type 0) (L : Layout X) (w : ℕ) (st : Stores w L)
+    (m : X) (n : ℕ) (S : Routes) (q : Route) (ok : ValidRoute w q) (lies : n ≤ L .room m) where
   abbrev y : Bits
   y = prefixBits w (q .value) (q .len)
 
@@ -189,13 +190,13 @@ module _ (X : Type 0) (get : X → Mem) (put : X → ℕ → Row → X) (room : 
   n′ = cond (eqb (S y) 0) (n + 1) n
 
   abbrev Result : Type 0
-  Result = Announced w (get m) (get (announced get put w m n q)) n S q
+  Result = Announced w (L .get m) (L .get (announced L w m n q)) n S q
 
-  announced-first : IsTrie leaf S → n ≡ 0 → 0 < room m → Result
+  announced-first : IsTrie leaf S → n ≡ 0 → 0 < L .room m → Result
   unfolding announced
   announced-first rule z fits =
-      let M′ : Mem = get (put m 0 (leafRow q)) in
-      let row : leafRow q ≡ M′ 0 = sym (st .get-same m 0 (leafRow q) fits) in
+      let M′ : Mem = L .get (L .put m 0 (leafRow q)) in
+      let row : leafRow q ≡ M′ 0 = sym (st .get-same m 0 (leafRow q) fits (ok .prefix .fits)) in
       let new : eqb (S y) 0 ≡ true = eq-eqb (S y) 0 (rule y) in
       let placed : Placed w M′ 1 (upd S y (q .port)) = record {
         trie = insert y (q .port) leaf;
@@ -218,15 +219,15 @@ module _ (X : Type 0) (get : X → Mem) (put : X → ℕ → Row → X) (room : 
       no-child true = refl
       no-child false = refl
 
-  announced-more : (s : Bits) (p : ℕ) (c : Bool → Trie) → IsTrie (node s p c) S → Holds w (get m) [] 0 (node s p c)
-      → ((i : ℕ) → times (get m) 0 (node s p c) i ≡ isBelow n i) → (S y ≡ 0 → n < room m) → Result
+  announced-more : (s : Bits) (p : ℕ) (c : Bool → Trie) → IsTrie (node s p c) S → Holds w (L .get m) [] 0 (node s p c)
+      → ((i : ℕ) → times (L .get m) 0 (node s p c) i ≡ isBelow n i) → (S y ≡ 0 → n < L .room m) → Result
   unfolding announced
   announced-more s p c rule holds once fits =
       let pos : 0 < n = by-root in
       let new : grows y (node s p c) ≡ eqb (S y) 0 = grows-is (node s p c) S y rule in
-      let g : Grown get put room st w m (sink get put w w m n 0 q) [] n 0 (node s p c) y (q .port) =
-      sink-grows get put room st w s p c w [] m n 0 q y (omega arith) (record { valid = ok; is = refl }) holds
-      (λ i. omega (arith, once i, below-le n i)) (below-once (get m) (node s p c) n once) pos lies
+      let g : Grown L w st m (sink L w w m n 0 q) [] n 0 (node s p c) y (q .port) =
+      sink-grows L w st s p c w [] m n 0 q y (omega arith) (record { valid = ok; is = refl }) holds
+      (λ i. omega (arith, once i, below-le n i)) (below-once (L .get m) (node s p c) n once) pos lies
       (λ e. fits (eqb-true (S y) 0 (sym new ∙ e))) in
       rw (ne-eqb n 0 (λ z. omega arith))
       (record {
@@ -247,25 +248,25 @@ module _ (X : Type 0) (get : X → Mem) (put : X → ℕ → Row → X) (room : 
       count i false = omega arith
 
 pub announced-is : AnnouncedIs
-announced-is X get put room st w m n S q good ok lies fits = by (good .trie) (good .rule) (good .holds) (good .once)
+announced-is X L w st m n S q good ok lies fits = by (good .trie) (good .rule) (good .holds) (good .once)
   where
-    by : (t : Trie) → IsTrie t S → Holds w (get m) [] 0 t → ((i : ℕ) → times (get m) 0 t i ≡ isBelow n i)
-        → Announced w (get m) (get (announced get put w m n q)) n S q
+    by : (t : Trie) → IsTrie t S → Holds w (L .get m) [] 0 t → ((i : ℕ) → times (L .get m) 0 t i ≡ isBelow n i)
+        → Announced w (L .get m) (L .get (announced L w m n q)) n S q
     by leaf rule holds once =
-        let z : n ≡ 0 = node-some w (get m) n S leaf once refl in
-        announced-first X get put room st w m n S q ok lies rule z (omega (arith, fits (rule (prefixBits w (q .value) (q .len)))))
-    by (node s p c) rule holds once = announced-more X get put room st w m n S q ok lies s p c rule holds once fits
+        let z : n ≡ 0 = node-some w (L .get m) n S leaf once refl in
+        announced-first X L w st m n S q ok lies rule z (omega (arith, fits (rule (prefixBits w (q .value) (q .len)))))
+    by (node s p c) rule holds once = announced-more X L w st m n S q ok lies s p c rule holds once fits
 
 -- withdrawals
 
 below-pred : (n i : ℕ) → 0 < n → isBelow n i ≡ isBelow (n - 1) i + hit (n - 1) i
 below-pred n i h = let z : n ≡ n - 1 + 1 = omega arith in ap (λ (j : ℕ). isBelow j i) z ∙ below-suc (n - 1) i
 
-module _ (X : Type 0) (get : X → Mem) (put : X → ℕ → Row → X) (room : X → ℕ) (st : Stores get put room)
-    (w : ℕ) (m : X) (n : ℕ) (S : Routes) (q : Route) (ok : Valid w (q .value) (q .len)) (lies : n ≤ room m)
+module _ (X : Type 0) (L : Layout X) (w : ℕ) (st : Stores w L)
+    (m : X) (n : ℕ) (S : Routes) (q : Route) (ok : Valid w (q .value) (q .len)) (lies : n ≤ L .room m)
     (live : 0 < S (prefixBits w (q .value) (q .len)))
-    (s : Bits) (p : ℕ) (c : Bool → Trie) (rule : IsTrie (node s p c) S) (holds : Holds w (get m) [] 0 (node s p c))
-    (once : (i : ℕ) → times (get m) 0 (node s p c) i ≡ isBelow n i) where
+    (s : Bits) (p : ℕ) (c : Bool → Trie) (rule : IsTrie (node s p c) S) (holds : Holds w (L .get m) [] 0 (node s p c))
+    (once : (i : ℕ) → times (L .get m) 0 (node s p c) i ≡ isBelow n i) where
   abbrev q-bits : Bits
   q-bits = prefixBits w (q .value) (q .len)
 
@@ -276,32 +277,32 @@ module _ (X : Type 0) (get : X → Mem) (put : X → ℕ → Row → X) (room : 
   some = let z : (n ≡ 0 → ⊥) = (λ e. omega (arith, once 0, hit-same 0, below-no n 0 (omega arith))) in omega arith
 
   -- a child names a row other than the root
-  child-row : (b : Bool) → (c b ≡ leaf → ⊥) → (0 < child (get m 0) b) × (child (get m 0) b < n)
+  child-row : (b : Bool) → (c b ≡ leaf → ⊥) → (0 < child (L .get m 0) b) × (child (L .get m 0) b < n)
   child-row b ne = by (c b) refl
     where
-      by : (t : Trie) → c b ≡ t → (0 < child (get m 0) b) × (child (get m 0) b < n)
+      by : (t : Trie) → c b ≡ t → (0 < child (L .get m 0) b) × (child (L .get m 0) b < n)
       by leaf e = absurd (ne e)
       by (node s₁ p₁ c₁) e =
-          let j : ℕ = child (get m 0) b in
-          let k : 0 < times (get m) j (c b) j = rw e (omega (arith, hit-same j)) in
-          (subst (Names j) e (holds .below b .0), below-once (get m) (node s p c) n once j (omega (arith, times-child (get m) 0 s p c b j)))
+          let j : ℕ = child (L .get m 0) b in
+          let k : 0 < times (L .get m) j (c b) j = rw e (omega (arith, hit-same j)) in
+          (subst (Names j) e (holds .below b .0), below-once (L .get m) (node s p c) n once j (omega (arith, times-child (L .get m) 0 s p c b j)))
 
   -- a root without children is the only row
   alone : ((b : Bool) → c b ≡ leaf) → (i : ℕ) → isBelow n i ≡ hit 0 i
   alone e i =
       sym (once i)
       ∙ ap₂ (λ (a b : ℕ). hit 0 i + (a + b))
-      (ap (λ (t : Trie). times (get m) (get m 0 .left) t i) (e false))
-      (ap (λ (t : Trie). times (get m) (get m 0 .right) t i) (e true))
+      (ap (λ (t : Trie). times (L .get m) (L .get m 0 .left) t i) (e false))
+      (ap (λ (t : Trie). times (L .get m) (L .get m 0 .right) t i) (e true))
       ∙ (let z : hit 0 i + (0 + 0) ≡ hit 0 i = omega arith in z)
 
   -- the last route goes: nothing is left
-  withdrawn-last : n ≡ 1 → Withdrawn w (get m) (get (withdrawn get put w m n q)) n S q
+  withdrawn-last : n ≡ 1 → Withdrawn w (L .get m) (L .get (withdrawn L w m n q)) n S q
   unfolding withdrawn
   withdrawn-last one =
-      let fits : 0 < room m = omega arith in
+      let fits : 0 < L .room m = omega arith in
       let z : n - 1 ≡ 0 = omega arith in
-      rw (eq-eqb n 1 one)
+      rw (le-ltb 1 n (omega arith))
       (record {
         placed = rw z (record {
           trie = leaf;
@@ -309,7 +310,7 @@ module _ (X : Type 0) (get : X → Mem) (put : X → ℕ → Row → X) (room : 
           holds = tt;
           once = λ i. sym (below-no 0 i (omega arith));
         });
-        last = rw z (st .get-same m 0 zeroRow fits);
+        last = rw z (st .get-same m 0 zeroRow fits (pow-pos w));
         rest = λ i k. st .get-other m 0 i zeroRow (λ e. omega arith);
       })
     where
@@ -345,38 +346,38 @@ module _ (X : Type 0) (get : X → Mem) (put : X → ℕ → Row → X) (room : 
     last = n - 1
 
     -- the root is no leaf that holds the route
-    not-last : isLast q (get m 0) ≡ false
-    not-last = ⊎-elim (λ (t : isLast q (get m 0) ≡ true). absurd (by t)) (λ (t : isLast q (get m 0) ≡ false). t) (way (isLast q (get m 0)))
+    not-last : isLast q (L .get m 0) ≡ false
+    not-last = ⊎-elim (λ (t : isLast q (L .get m 0) ≡ true). absurd (by t)) (λ (t : isLast q (L .get m 0) ≡ false). t) (way (isLast q (L .get m 0)))
       where
-        by : isLast q (get m 0) ≡ true → ⊥
+        by : isLast q (L .get m 0) ≡ true → ⊥
         by t =
-            let one = both (isSame q (get m 0) && eqb (get m 0 .left) 0) (eqb (get m 0 .right) 0) t in
-            let two = both (isSame q (get m 0)) (eqb (get m 0 .left) 0) (one .0) in
-            let l : get m 0 .left ≡ 0 = eqb-true (get m 0 .left) 0 (two .1) in
-            let r : get m 0 .right ≡ 0 = eqb-true (get m 0 .right) 0 (one .1) in
+            let one = both (isSame q (L .get m 0) && eqb (L .get m 0 .left) 0) (eqb (L .get m 0 .right) 0) t in
+            let two = both (isSame q (L .get m 0)) (eqb (L .get m 0 .left) 0) (one .0) in
+            let l : L .get m 0 .left ≡ 0 = eqb-true (L .get m 0 .left) 0 (two .1) in
+            let r : L .get m 0 .right ≡ 0 = eqb-true (L .get m 0 .right) 0 (one .1) in
             let e : ((b : Bool) → c b ≡ leaf) = leafs l r in
             let ne : (last ≡ 0 → ⊥) = (λ z. omega (arith, some)) in
             omega (arith, alone e last, below-yes n last (omega (arith, some)), hit-other 0 last ne)
           where
-            none : (b : Bool) → child (get m 0) b ≡ 0 → c b ≡ leaf
-            none b z = leaf-of (get m) (child (get m 0) b) (c b) (holds .below b .0) z
+            none : (b : Bool) → child (L .get m 0) b ≡ 0 → c b ≡ leaf
+            none b z = leaf-of (L .get m) (child (L .get m 0) b) (c b) (holds .below b .0) z
 
-            leafs : get m 0 .left ≡ 0 → get m 0 .right ≡ 0 → (b : Bool) → c b ≡ leaf
+            leafs : L .get m 0 .left ≡ 0 → L .get m 0 .right ≡ 0 → (b : Bool) → c b ≡ leaf
             leafs l r false = none false l
             leafs l r true = none true r
 
     abbrev z : Cut X
-    z = cut get put w w m 0 q
+    z = cut L w w m 0 q
 
     abbrev t′ : Trie
     t′ = remove q-bits (node s p c)
 
-    shrunk : Shrunk get put room st w m z [] 0 (node s p c) q-bits
+    shrunk : Shrunk L w st m z [] 0 (node s p c) q-bits
     shrunk =
-        cut-shrinks get put room st w s p c w [] m 0 q q-bits S (omega arith) q-at holds (λ i. omega (arith, once i, below-le n i))
-        (λ i k. omega (arith, below-once (get m) (node s p c) n once i k)) rule live not-last
+        cut-shrinks L w st s p c w [] m 0 q q-bits S (omega arith) q-at holds (λ i. omega (arith, once i, below-le n i))
+        (λ i k. omega (arith, below-once (L .get m) (node s p c) n once i k)) rule live not-last
 
-    count : (i : ℕ) → times (get (z .rows)) 0 t′ i + hit (z .freed) i ≡ isBelow n i
+    count : (i : ℕ) → times (L .get (z .rows)) 0 t′ i + hit (z .freed) i ≡ isBelow n i
     count i = shrunk .reached i ∙ once i
 
     freed-lt : z .freed < n
@@ -395,96 +396,96 @@ module _ (X : Type 0) (get : X → Mem) (put : X → ℕ → Row → X) (room : 
     }
 
     -- the row that fell away was the last one
-    withdrawn-same : z .freed ≡ last → Withdrawn w (get m) (get (put (z .rows) last zeroRow)) n S q
+    withdrawn-same : z .freed ≡ last → Withdrawn w (L .get m) (L .get (L .put (z .rows) last zeroRow)) n S q
     withdrawn-same e =
-        let Z : Mem = get (put (z .rows) last zeroRow) in
-        let off : times (get (z .rows)) 0 t′ last ≡ 0 =
+        let Z : Mem = L .get (L .put (z .rows) last zeroRow) in
+        let off : times (L .get (z .rows)) 0 t′ last ≡ 0 =
         omega (arith, count last, ap (λ (j : ℕ). hit j last) e, hit-same last, below-yes n last (omega (arith, some))) in
-        let agree : Agree (get (z .rows)) Z 0 t′ =
-        (λ i k. st .get-other (z .rows) last i zeroRow (λ f. omega (arith, ap (times (get (z .rows)) 0 t′) f, off))) in
+        let agree : Agree (L .get (z .rows)) Z 0 t′ =
+        (λ i k. st .get-other (z .rows) last i zeroRow (λ f. omega (arith, ap (times (L .get (z .rows)) 0 t′) f, off))) in
         record {
           placed =
-              ends Z (holds-frame (get (z .rows)) Z w [] 0 t′ agree (shrunk .holds))
-              (λ i. ap₂ (λ (j d : ℕ). j + hit d i) (times-frame (get (z .rows)) Z 0 t′ i agree) (sym e) ∙ count i);
-          last = st .get-same (z .rows) last zeroRow (rw (shrunk .rooms) (omega (arith, some)));
+              ends Z (holds-frame (L .get (z .rows)) Z w [] 0 t′ agree (shrunk .holds))
+              (λ i. ap₂ (λ (j d : ℕ). j + hit d i) (times-frame (L .get (z .rows)) Z 0 t′ i agree) (sym e) ∙ count i);
+          last = st .get-same (z .rows) last zeroRow (rw (shrunk .rooms) (omega (arith, some))) (pow-pos w);
           rest = λ i k.
               st .get-other (z .rows) last i zeroRow (λ f. omega (arith, some))
               ∙ shrunk .frame i (once i ∙ below-no n i k);
         }
 
     -- it was another: the last row moves there
-    withdrawn-moved : (z .freed ≡ last → ⊥) → Withdrawn w (get m) (get (put (moveRow get put w (z .rows) last (z .freed)) last zeroRow)) n S q
+    withdrawn-moved : (z .freed ≡ last → ⊥) → Withdrawn w (L .get m) (L .get (L .put (moveRow L w (z .rows) last (z .freed)) last zeroRow)) n S q
     withdrawn-moved ne = by t′ refl
       where
         f : ℕ
         f = z .freed
 
         s′ : X
-        s′ = relink get put w w (z .rows) 0 (get (z .rows) last .value) last f
+        s′ = relink L w w (z .rows) 0 (L .get (z .rows) last .value) last f
 
         final : X
-        final = put (put s′ f (get s′ last)) last zeroRow
+        final = L .put (L .put s′ f (L .get s′ last)) last zeroRow
 
-        by : (t : Trie) → t′ ≡ t → Withdrawn w (get m) (get final) n S q
+        by : (t : Trie) → t′ ≡ t → Withdrawn w (L .get m) (L .get final) n S q
         by leaf e = absurd (omega (arith, subst (Names 1) e (shrunk .named 1 (omega arith))))
         by (node u o d) e =
-            let M₁ : Mem = get (z .rows) in
+            let M₁ : Mem = L .get (z .rows) in
             let k : ((i : ℕ) → times M₁ 0 (node u o d) i + hit f i ≡ isBelow n i) =
             (λ i. ap (λ (t : Trie). times M₁ 0 t i + hit f i) (sym e) ∙ count i) in
             let root : f ≡ 0 → ⊥ = (λ g. omega (arith, k 0, hit-same 0, ap (λ (j : ℕ). hit j 0) g, below-le n 0)) in
             let pos : 0 < f = omega (arith, root) in
             let far : 0 ≡ last → ⊥ = (λ g. omega (arith, some)) in
-            let rl : Relinked get put room st w (z .rows) last f pos ne s′ [] 0 (node u o d) =
-            relink-moves get put room st w (z .rows) last f pos ne u o d w [] 0 (omega arith)
+            let rl : Relinked L w st (z .rows) last f pos ne s′ [] 0 (node u o d) =
+            relink-moves L w st (z .rows) last f pos ne u o d w [] 0 (omega arith)
             (subst (Holds w M₁ [] 0) e (shrunk .holds))
             (λ i. omega (arith, k i, below-le n i))
             (λ i g. rw (shrunk .rooms) (omega (arith, from k i g)))
             (omega (arith, k last, hit-other f last (λ g. ne (sym g)), below-yes n last (omega (arith, some))))
             far
             (omega (arith, k f, hit-same f, below-le n f)) in
-            let room-s : room s′ ≡ room m = rl .rooms ∙ shrunk .rooms in
-            let s″ : X = put s′ f (get s′ last) in
-            let room-f : room s″ ≡ room m = st .room-put s′ f (get s′ last) ∙ room-s in
-            let copied : Copied get put room st w (z .rows) last f pos ne (get final) s′ = record {
-              copy = st .get-other s″ last f zeroRow ne ∙ st .get-same s′ f (get s′ last) (rw room-s (omega (arith, freed-lt)));
-              rest = λ i a b. st .get-other s″ last i zeroRow b ∙ st .get-other s′ f i (get s′ last) a;
+            let room-s : L .room s′ ≡ L .room m = rl .rooms ∙ shrunk .rooms in
+            let s″ : X = L .put s′ f (L .get s′ last) in
+            let room-f : L .room s″ ≡ L .room m = st .room-put s′ f (L .get s′ last) ∙ room-s in
+            let copied : Copied L w st (z .rows) last f pos ne (L .get final) s′ = record {
+              copy = st .get-other s″ last f zeroRow ne ∙ st .get-same s′ f (L .get s′ last) (rw room-s (omega (arith, freed-lt))) (rl .low);
+              rest = λ i a b. st .get-other s″ last i zeroRow b ∙ st .get-other s′ f i (L .get s′ last) a;
             } in
-            let mv : Moved get put room st w (z .rows) last f pos ne (get final) [] 0 (node u o d) = rl .moved (get final) copied in
+            let mv : Moved L w st (z .rows) last f pos ne (L .get final) [] 0 (node u o d) = rl .moved (L .get final) copied in
             record {
               placed =
-                  ends (get final) (subst (Holds w (get final) [] 0) (sym e) (mv .holds))
-                  (λ i. ap (λ (t : Trie). times (get final) 0 t i + hit last i) e ∙ mv .reached i ∙ k i);
-              last = st .get-same s″ last zeroRow (rw room-f (omega (arith, some)));
+                  ends (L .get final) (subst (Holds w (L .get final) [] 0) (sym e) (mv .holds))
+                  (λ i. ap (λ (t : Trie). times (L .get final) 0 t i + hit last i) e ∙ mv .reached i ∙ k i);
+              last = st .get-same s″ last zeroRow (rw room-f (omega (arith, some))) (pow-pos w);
               rest = λ i g.
                   st .get-other s″ last i zeroRow (λ a. omega (arith, some))
-                  ∙ st .get-other s′ f i (get s′ last) (λ a. omega (arith, freed-lt))
+                  ∙ st .get-other s′ f i (L .get s′ last) (λ a. omega (arith, freed-lt))
                   ∙ rl .frame i (let j : times M₁ 0 (node u o d) i ≡ 0 = omega (arith, k i, below-no n i g) in j)
                   ∙ shrunk .frame i (once i ∙ below-no n i g);
             }
           where
-            from : ((i : ℕ) → times (get (z .rows)) 0 (node u o d) i + hit f i ≡ isBelow n i) → (i : ℕ) → 0 < times (get (z .rows)) 0 (node u o d) i → i < n
+            from : ((i : ℕ) → times (L .get (z .rows)) 0 (node u o d) i + hit f i ≡ isBelow n i) → (i : ℕ) → 0 < times (L .get (z .rows)) 0 (node u o d) i → i < n
             from k i g = ⊎-elim
                 (λ (a : ltb i n ≡ true). ltb-true i n a)
                 (λ (a : ltb i n ≡ false). absurd (omega (arith, k i, below-no n i (ltb-false i n a))))
                 (way (ltb i n))
 
-    withdrawn-more : Withdrawn w (get m) (get (withdrawn get put w m n q)) n S q
+    withdrawn-more : Withdrawn w (L .get m) (L .get (withdrawn L w m n q)) n S q
     unfolding withdrawn closeGap
     withdrawn-more =
-        rw (ne-eqb n 1 more)
+        rw (lt-ltb 1 n (omega (arith, some, more)))
         (⊎-elim
-        (λ (e : eqb (z .freed) last ≡ true). rw e (withdrawn-same (eqb-true (z .freed) last e)))
-        (λ (e : eqb (z .freed) last ≡ false). rw e (withdrawn-moved (eqb-false (z .freed) last e)))
+        (λ (e : eqb (z .freed) last ≡ true). rw (closeGap, e) (withdrawn-same (eqb-true (z .freed) last e)))
+        (λ (e : eqb (z .freed) last ≡ false). rw (closeGap, e) (withdrawn-moved (eqb-false (z .freed) last e)))
         (way (eqb (z .freed) last)))
 
 pub withdrawn-is : WithdrawnIs
-withdrawn-is X get put room st w m n S q good ok lies live = by (good .trie) (good .rule) (good .holds) (good .once)
+withdrawn-is X L w st m n S q good ok lies live = by (good .trie) (good .rule) (good .holds) (good .once)
   where
-    by : (t : Trie) → IsTrie t S → Holds w (get m) [] 0 t → ((i : ℕ) → times (get m) 0 t i ≡ isBelow n i)
-        → Withdrawn w (get m) (get (withdrawn get put w m n q)) n S q
+    by : (t : Trie) → IsTrie t S → Holds w (L .get m) [] 0 t → ((i : ℕ) → times (L .get m) 0 t i ≡ isBelow n i)
+        → Withdrawn w (L .get m) (L .get (withdrawn L w m n q)) n S q
     by leaf rule holds once = absurd (omega (arith, rule (prefixBits w (q .value) (q .len)), live))
     by (node s p c) rule holds once =
         ⊎-elim
-        (λ (e : eqb n 1 ≡ true). withdrawn-last X get put room st w m n S q ok lies live s p c rule holds once (eqb-true n 1 e))
-        (λ (e : eqb n 1 ≡ false). withdrawn-more X get put room st w m n S q ok lies live s p c rule holds once (eqb-false n 1 e))
+        (λ (e : eqb n 1 ≡ true). withdrawn-last X L w st m n S q ok lies live s p c rule holds once (eqb-true n 1 e))
+        (λ (e : eqb n 1 ≡ false). withdrawn-more X L w st m n S q ok lies live s p c rule holds once (eqb-false n 1 e))
         (way (eqb n 1))

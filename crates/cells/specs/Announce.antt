@@ -4,7 +4,7 @@ use mathlib.Core.Bool.{Bool, true, false, cond}
 use Prim.Native.Nat.{ℕ, zero, suc, _-_}
 use lib.Dec.{eqb}
 use Rattle.routes.specs.declared.Route.{Route}
-use Rattle.cells.specs.Rows.{Mem, child, routeOf, leafRow, withRoute, withChild}
+use Rattle.cells.specs.Rows.{Mem, Layout, child, routeOf, leafRow, withRoute, withChild}
 use Rattle.cells.specs.Order.{samePrefix, goesOver}
 use Rattle.cells.specs.Lookup.{bitBefore}
 use Rattle.cells.specs.declared.Row.{Row}
@@ -34,24 +34,24 @@ heldAt w M (suc k) r q =
 abbrev pub isHeld : ℕ → Mem → ℕ → Route → Bool
 isHeld w M n q = cond (eqb n 0) false (heldAt w M w 0 q)
 
-module _ {S : Type 0} (get : S → Mem) (put : S → ℕ → Row → S) (w : ℕ) where
+module _ {S : Type 0} (L : Layout S) (w : ℕ) where
   -- one step at row r: U holds the place and D goes down; where it has no row, it gets row n
   abbrev pub sinkBy : S → ℕ → ℕ → Route → Route → Bool → (S → ℕ → S) → S
   sinkBy s n r U D b on =
-      cond (eqb (child (get s r) b) 0)
-      (put (put s r (withChild (withRoute (get s r) U) b n)) n (leafRow D))
-      (on (put s r (withRoute (get s r) U)) (child (get s r) b))
+      cond (eqb (child (L .get s r) b) 0)
+      (L .put (L .put s r (withChild (withRoute (L .get s r) U) b n)) n (leafRow D))
+      (on (L .put s r (withRoute (L .get s r) U)) (child (L .get s r) b))
 
   -- the route q sinks from row r on, with k bits below it: "A prefix already held gets the new port."
   unfoldable pub sink : ℕ → S → ℕ → ℕ → Route → S
-  sink zero s n r q = cond (isSame q (get s r)) (put s r (withRoute (get s r) q)) s
+  sink zero s n r q = cond (isSame q (L .get s r)) (L .put s r (withRoute (L .get s r) q)) s
   sink (suc k) s n r q =
-      let over : Bool = isOver (w - suc k) q (get s r) in
-      let upper : Route = pick over q (routeOf (get s r)) in
-      let lower : Route = pick over (routeOf (get s r)) q in
-      cond (isSame q (get s r)) (put s r (withRoute (get s r) q))
+      let over : Bool = isOver (w - suc k) q (L .get s r) in
+      let upper : Route = pick over q (routeOf (L .get s r)) in
+      let lower : Route = pick over (routeOf (L .get s r)) q in
+      cond (isSame q (L .get s r)) (L .put s r (withRoute (L .get s r) q))
       (sinkBy s n r upper lower (bitBefore (lower .value) k) (λ s′ c. sink k s′ n c lower))
 
   -- the rows of a table of n routes with the route q
   unfoldable pub announced : S → ℕ → Route → S
-  announced s n q = cond (eqb n 0) (put s 0 (leafRow q)) (sink w s n 0 q)
+  announced s n q = cond (eqb n 0) (L .put s 0 (leafRow q)) (sink w s n 0 q)

@@ -2,7 +2,7 @@
 -- the words is no matter here: memory is a function from the row's number. Assumes nothing.
 use mathlib.Core.Path.{_≡_}
 use mathlib.Core.Bool.{Bool, cond}
-use Prim.Native.Nat.{ℕ, _<_}
+use Prim.Native.Nat.{ℕ, _^_, _<_}
 use lib.Dec.{eqb}
 use Rattle.bits.specs.Bits.{Bits, prefixBits}
 use Rattle.routes.specs.declared.Route.{Route}
@@ -35,12 +35,14 @@ abbrev pub withChild : Row → Bool → ℕ → Row
 withChild x b c =
     record { value = x .value; len = x .len; port = x .port; left = cond b (x .left) c; right = cond b c (x .right) }
 
--- Where rows lie: what reads and stores them obeys these laws below a capacity.
-pub record Stores {S : Type 0} (get : S → Mem) (put : S → ℕ → Row → S) (room : S → ℕ) : Type 0 where
-  pub room-put : (s : S) (r : ℕ) (x : Row) → room (put s r x) ≡ room s
-  pub get-same : (s : S) (r : ℕ) (x : Row) → r < room s → get (put s r x) r ≡ x
-  pub get-other : (s : S) (r i : ℕ) (x : Row) → (i ≡ r → ⊥) → get (put s r x) i ≡ get s i
+-- Where rows lie: what reads one, what stores one, and how many there are.
+pub record Layout (S : Type 0) : Type 0 where
+  pub get : S → Mem
+  pub put : S → ℕ → Row → S
+  pub room : S → ℕ
 
--- every row below n names children below n: what the code needs of rows in good order to stay within them
-abbrev pub Closed : Mem → ℕ → Type 0
-Closed M n = (i : ℕ) → i < n → (b : Bool) → child (M i) b < n
+-- What is read and stored obeys these laws below the room, for values of w bits.
+pub record Stores {S : Type 0} (w : ℕ) (L : Layout S) : Type 0 where
+  pub room-put : (s : S) (r : ℕ) (x : Row) → L .room (L .put s r x) ≡ L .room s
+  pub get-same : (s : S) (r : ℕ) (x : Row) → r < L .room s → x .value < 2 ^ w → L .get (L .put s r x) r ≡ x
+  pub get-other : (s : S) (r i : ℕ) (x : Row) → (i ≡ r → ⊥) → L .get (L .put s r x) i ≡ L .get s i

@@ -14,7 +14,7 @@ use Rattle.trie.specs.Trie.{reads}
 use Rattle.routes.specs.Refusals.{mostRoutes}
 use Rattle.routes.specs.Routes.{route, bitRoute, ValidRoute, ValidList}
 use Rattle.routes.specs.declared.Route.{Route}
-use Rattle.cells.specs.Rows.{Mem, Stores}
+use Rattle.cells.specs.Rows.{Mem, Layout, Stores}
 use Rattle.cells.specs.Holds.{Placed, GoodFor, GoodOrder}
 use Rattle.cells.specs.Lookup.{found, lookupIn}
 use Rattle.cells.specs.Check.{isGood}
@@ -66,9 +66,9 @@ pub record Announced (w : ℕ) (M M′ : Mem) (n : ℕ) (S : Routes) (q : Route)
 
 abbrev pub AnnouncedIs : Type 1
 AnnouncedIs =
-    (X : Type 0) (get : X → Mem) (put : X → ℕ → Row → X) (room : X → ℕ) → Stores get put room
-    → (w : ℕ) (s : X) (n : ℕ) (S : Routes) (q : Route) → Placed w (get s) n S → ValidRoute w q → n ≤ room s
-    → (S (prefixBits w (q .value) (q .len)) ≡ 0 → n < room s) → Announced w (get s) (get (announced get put w s n q)) n S q
+    (X : Type 0) (L : Layout X) (w : ℕ) → Stores w L
+    → (s : X) (n : ℕ) (S : Routes) (q : Route) → Placed w (L .get s) n S → ValidRoute w q → n ≤ L .room s
+    → (S (prefixBits w (q .value) (q .len)) ≡ 0 → n < L .room s) → Announced w (L .get s) (L .get (announced L w s n q)) n S q
 
 -- "Row n-1 is then five zeros. Other rows from n on are never touched": the rows hold the trie of the set without the route
 pub record Withdrawn (w : ℕ) (M M′ : Mem) (n : ℕ) (S : Routes) (q : Route) : Type 0 where
@@ -78,6 +78,6 @@ pub record Withdrawn (w : ℕ) (M M′ : Mem) (n : ℕ) (S : Routes) (q : Route)
 
 abbrev pub WithdrawnIs : Type 1
 WithdrawnIs =
-    (X : Type 0) (get : X → Mem) (put : X → ℕ → Row → X) (room : X → ℕ) → Stores get put room
-    → (w : ℕ) (s : X) (n : ℕ) (S : Routes) (q : Route) → Placed w (get s) n S → Valid w (q .value) (q .len) → n ≤ room s
-    → 0 < S (prefixBits w (q .value) (q .len)) → Withdrawn w (get s) (get (withdrawn get put w s n q)) n S q
+    (X : Type 0) (L : Layout X) (w : ℕ) → Stores w L
+    → (s : X) (n : ℕ) (S : Routes) (q : Route) → Placed w (L .get s) n S → Valid w (q .value) (q .len) → n ≤ L .room s
+    → 0 < S (prefixBits w (q .value) (q .len)) → Withdrawn w (L .get s) (L .get (withdrawn L w s n q)) n S q

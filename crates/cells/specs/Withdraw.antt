@@ -6,7 +6,7 @@ use Prim.Native.Nat.{ℕ, zero, suc, _-_}
 use lib.Dec.{eqb, ltb}
 use Rattle.routes.specs.Routes.{route}
 use Rattle.routes.specs.declared.Route.{Route}
-use Rattle.cells.specs.Rows.{Mem, child, routeOf, leafRow, withRoute, withChild}
+use Rattle.cells.specs.Rows.{Mem, Layout, child, routeOf, leafRow, withRoute, withChild}
 use Rattle.cells.specs.Order.{aheadOf}
 use Rattle.cells.specs.Lookup.{bitBefore}
 use Rattle.cells.specs.Announce.{isSame, pick}
@@ -55,41 +55,41 @@ pub record Cut (S : Type 0) : Type 0 where
   pub rows : S
   pub freed : ℕ
 
-module _ {S : Type 0} (get : S → Mem) (put : S → ℕ → Row → S) (w : ℕ) where
+module _ {S : Type 0} (L : Layout S) (w : ℕ) where
   -- one step at row r: H holds the place, and D is to go from side b, where it is the last or goes further down
   abbrev pub cutBy : S → ℕ → Route → Route → Bool → (S → ℕ → Cut S) → Cut S
   cutBy s r H D b on =
-      cond (isLast D (get s (child (get s r) b)))
-      (record { rows = put s r (withChild (withRoute (get s r) H) b 0); freed = child (get s r) b })
-      (on (put s r (withRoute (get s r) H)) (child (get s r) b))
+      cond (isLast D (L .get s (child (L .get s r) b)))
+      (record { rows = L .put s r (withChild (withRoute (L .get s r) H) b 0); freed = child (L .get s r) b })
+      (on (L .put s r (withRoute (L .get s r) H)) (child (L .get s r) b))
 
   -- The route q is taken out of the rows from r on, with k bits below r; r is no leaf that holds q. Where r holds q, the best from
   -- below takes its place and is itself taken out further down.
   unfoldable pub cut : ℕ → S → ℕ → Route → Cut S
   cut zero s r q = record { rows = s; freed = r }
   cut (suc k) s r q =
-      let taken : Route = pick (isSame q (get s r)) (bestBelow w (get s) k (get s r)) q in
-      let holder : Route = pick (isSame q (get s r)) (bestBelow w (get s) k (get s r)) (routeOf (get s r)) in
+      let taken : Route = pick (isSame q (L .get s r)) (bestBelow w (L .get s) k (L .get s r)) q in
+      let holder : Route = pick (isSame q (L .get s r)) (bestBelow w (L .get s) k (L .get s r)) (routeOf (L .get s r)) in
       cutBy s r holder taken (bitBefore (taken .value) k) (λ s′ c. cut k s′ c taken)
 
   -- the parent of row `last`, on the way of its value v, now names row `freed`
   unfoldable pub relink : ℕ → S → ℕ → ℕ → ℕ → ℕ → S
   relink zero s r v last freed = s
   relink (suc k) s r v last freed =
-      cond (eqb (child (get s r) (bitBefore v k)) last)
-      (put s r (withChild (get s r) (bitBefore v k) freed))
-      (relink k s (child (get s r) (bitBefore v k)) v last freed)
+      cond (eqb (child (L .get s r) (bitBefore v k)) last)
+      (L .put s r (withChild (L .get s r) (bitBefore v k) freed))
+      (relink k s (child (L .get s r) (bitBefore v k)) v last freed)
 
   -- "row n-1 ... moves to the freed number and its parent follows"
   abbrev pub moveRow : S → ℕ → ℕ → S
   moveRow s last freed =
-      let s′ : S = relink w s 0 (get s last .value) last freed in
-      put s′ freed (get s′ last)
+      let s′ : S = relink w s 0 (L .get s last .value) last freed in
+      L .put s′ freed (L .get s′ last)
 
   -- "where it is not the one freed"; "Row n-1 is then five zeros."
   unfoldable pub closeGap : Cut S → ℕ → S
-  closeGap c last = put (cond (eqb (c .freed) last) (c .rows) (moveRow (c .rows) last (c .freed))) last zeroRow
+  closeGap c last = L .put (cond (eqb (c .freed) last) (c .rows) (moveRow (c .rows) last (c .freed))) last zeroRow
 
   -- the rows of a table of n routes without the route q, which it holds
   unfoldable pub withdrawn : S → ℕ → Route → S
-  withdrawn s n q = cond (eqb n 1) (put s 0 zeroRow) (closeGap (cut w s 0 q) (n - 1))
+  withdrawn s n q = cond (ltb 1 n) (closeGap (cut w s 0 q) (n - 1)) (L .put s 0 zeroRow)

@@ -15,8 +15,9 @@ use Rattle.routes.specs.Check.{listCheck}
 use Rattle.routes.proofs.Check.{accepted-valid}
 use Rattle.file.specs.Theorems.{FileWidth}
 use Rattle.file.proofs.Trips.{read-written, write-read}
-use Rattle.cells.specs.Words.{capacity, rowAt}
+use Rattle.cells.specs.Words.{capacity, rowAt, fiveWords}
 use Rattle.cells.proofs.Lookup.{lookup-is-scan}
+use Rattle.order.proofs.Words.{words-stores}
 use Rattle.update.specs.Calls.{builtFrom, buildInto}
 use Rattle.update.specs.History.{ran}
 use Rattle.update.proofs.Built.{built-lookup-is-scan}
@@ -57,14 +58,14 @@ address-width : FileWidth 32
 address-width = record { whole = refl; short = omega arith; ported = omega arith }
 
 -- a build that is done had a valid list, and room for it
-module _ (list rows : List ℕ) (z : buildInto 32 list rows .answer .number ≡ 0) where
+module _ (list rows : List ℕ) (z : buildInto fiveWords 32 list rows .answer .number ≡ 0) where
   abbrev built : List ℕ
-  built = builtFrom 32 (routeAt list) (routeCount list) 0 rows
+  built = builtFrom fiveWords 32 (routeAt list) (routeCount list) 0 rows
 
   record Built : Type 0 where
     fine : listCheck 32 list .number ≡ 0
     room : routeCount list ≤ capacity rows
-    is : buildInto 32 list rows ≡ outcome (accepted (routeCount list)) built
+    is : buildInto fiveWords 32 list rows ≡ outcome (accepted (routeCount list)) built
 
   build-done : Built
   unfolding buildInto
@@ -102,7 +103,7 @@ pub demand-2 : Demand2
 demand-2 = record {
   table = λ list rows a fits small z.
       let b = build-done list rows z in
-      let scan = built-lookup-is-scan list rows (routeCount list) a (accepted-valid 32 list fits (b .fine)) (b .room) small in
+      let scan = built-lookup-is-scan fiveWords 32 (words-stores 32) (routeAt list) rows (routeCount list) a (accepted-valid 32 list fits (b .fine)) (b .room) small in
       (rw (b .is) (scan .0), rw (b .is) (scan .1));
   image = λ s list nodes ports a fits small z. built-is-scan 32 s list nodes ports a (strided s (image-strided s list nodes ports z)) fits small z;
   read-written = λ list file lent. read-written 32 list file lent address-width;
@@ -115,13 +116,13 @@ capacity-le rows = omega arith
 
 pub demand-3 : Demand3
 demand-3 = record {
-  held = history-is;
+  held = history-is fiveWords 32 (words-stores 32);
   looked-up = λ rows calls fit a small.
-      let t = ran 32 (emptyTable rows) calls in
-      lookup-is-scan 32 (capacity (t .words)) (rowAt (t .words)) (t .count) a (heldAfter rows calls) (history-is rows calls fit) small;
+      let t = ran fiveWords 32 (emptyTable rows) calls in
+      lookup-is-scan 32 (capacity (t .words)) (rowAt (t .words)) (t .count) a (heldAfter rows calls) (history-is fiveWords 32 (words-stores 32) rows calls fit) small;
   listed = λ rows calls lent rs fit lists room.
-      let t = ran 32 (emptyTable rows) calls in
-      table-runs-done 32 (capacity (t .words)) (rowAt (t .words)) (t .count) (heldAfter rows calls) lent rs (history-is rows calls fit)
+      let t = ran fiveWords 32 (emptyTable rows) calls in
+      table-runs-done 32 (capacity (t .words)) (rowAt (t .words)) (t .count) (heldAfter rows calls) lent rs (history-is fiveWords 32 (words-stores 32) rows calls fit)
       (capacity-le (t .words)) lists room;
   listed-list = list-runs-done 32;
   one-listing = λ f. ((runs f (2 ^ 32), listing-exists f (2 ^ 32) (omega arith)), listing-unique f (2 ^ 32));

@@ -15,7 +15,7 @@ use Rattle.routes.specs.Refusals.{accepted}
 use Rattle.routes.specs.Routes.{route, listOf}
 use Rattle.routes.specs.Check.{faultAt, firstFault, routesCheck, listCheck}
 use Rattle.routes.specs.declared.Route.{Route}
-use Rattle.cells.specs.Words.{rowAt, storeRow}
+use Rattle.cells.specs.Words.{rowAt, storeRow, fiveWords}
 use Rattle.cells.specs.Announce.{heldAt}
 use Rattle.cells.specs.Check.{seen, noRows, seenAt, isGood}
 use Rattle.demands.proofs.Steps.{seen-row, best-none, best-own, best-below, cut-on, cut-last, relink-on, relink-here}
@@ -36,7 +36,7 @@ holding bits len port = route (address bits len) len port
 
 -- Table I is in good order: what the check has seen, row by row from below
 good : isGood 32 10 (rowAt tableI) 10 ≡ true
-unfolding isGood
+unfolding isGood rowAt storeRow
 good =
     let M = rowAt tableI in
     let row9 : seenAt 32 M 10 28 (address 15 4) 9 ≡ seen 1 (address 15 4) 4 = seen-row 32 M 10 27 (address 15 4) 9 noRows noRows refl refl refl in
@@ -78,7 +78,8 @@ fourth = tableWith (row 18 5 3 1 2) (row 19 5 5 4 5) (row 8 4 7 0 7) (row 8 4 7 
 abbrev fifth : List ℕ
 fifth = tableWith (row 18 5 3 1 2) (row 19 5 5 4 5) (row 8 4 7 0 7) (row 15 4 10 0 0) (row 14 4 9 0 6) (row 0 0 0 0 0)
 
-cut-is : cut rowAt storeRow 32 32 tableI 0 (holding 38 6 0) ≡ record { rows = third; freed = 6 }
+cut-is : cut fiveWords 32 32 tableI 0 (holding 38 6 0) ≡ record { rows = third; freed = 6 }
+unfolding rowAt storeRow
 cut-is =
     let M = rowAt tableI in
     let F = rowAt first in
@@ -90,19 +91,20 @@ cut-is =
     ∙ cut-last 29 4 second (holding 19 5 5) (holding 8 4 7) (holding 5 3 8) (holding 8 4 7) refl (best-own 32 S 28 6 refl refl)
     (best-below 32 S 28 7 noRoute noRoute refl refl (best-none 32 S 28 0 refl) (best-none 32 S 28 0 refl)) refl 6 refl third refl refl
 
-relink-is : relink rowAt storeRow 32 32 third 0 (address 15 4) 9 6 ≡ fourth
+relink-is : relink fiveWords 32 32 third 0 (address 15 4) 9 6 ≡ fourth
+unfolding rowAt storeRow
 relink-is =
     relink-on 31 0 third (address 15 4) 9 6 2 refl refl
     ∙ relink-on 30 2 third (address 15 4) 9 6 5 refl refl
     ∙ relink-on 29 5 third (address 15 4) 9 6 8 refl refl
     ∙ relink-here 28 8 third (address 15 4) 9 6 9 refl fourth refl refl
 
-withdrawn-is : withdrawn rowAt storeRow 32 tableI 10 (holding 38 6 0) ≡ fifth
-unfolding withdrawn closeGap
+withdrawn-is : withdrawn fiveWords 32 tableI 10 (holding 38 6 0) ≡ fifth
+unfolding withdrawn closeGap rowAt storeRow
 withdrawn-is = rw (cut-is, relink-is)
 
-withdrawal-is : withdrawInto 32 tableI 10 (address 38 6) 6 ≡ outcome (accepted 9) fifth
-unfolding withdrawInto withdrawIn heldAt
+withdrawal-is : withdrawInto fiveWords 32 tableI 10 (address 38 6) 6 ≡ outcome (accepted 9) fifth
+unfolding withdrawInto withdrawIn heldAt rowAt storeRow
 withdrawal-is = rw (good, withdrawn-is)
 
 -- the seven routes, by their bits
@@ -151,7 +153,7 @@ unfolding someLonger listOf bits longest plainScan listCheck routesCheck firstFa
 eleven = image-is 4 [] (65535 ∷ 0 ∷ 0 ∷ []) (replicate 16 0) [] refl refl refl refl refl (replicate 3 0) (replicate 16 0) refl
 
 pub starred-hold : StarredHold
-unfolding walk lookupIn breadth.walk lookupWords ones onesIn
+unfolding walk lookupIn breadth.walk lookupWords ones onesIn rowAt storeRow
 starred-hold =
     let eight = ap afterwards withdrawal-is in
     let nine-found = ap (foundIn 1 (address 5 4)) nine in

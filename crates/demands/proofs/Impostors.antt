@@ -18,7 +18,7 @@ use Rattle.routes.specs.Theorems.{Words}
 use Rattle.routes.specs.declared.Answer.{Answer}
 use Rattle.file.specs.Theorems.{emptyFile}
 use Rattle.file.proofs.Trips.{empty-file}
-use Rattle.cells.specs.Words.{capacity, rowAt}
+use Rattle.cells.specs.Words.{capacity, rowAt, storeRow, fiveWords}
 use Rattle.cells.specs.Lookup.{found, walk, lookupIn}
 use Rattle.cells.specs.Announce.{heldAt, sink, announced}
 use Rattle.cells.specs.Withdraw.{withdrawn}
@@ -62,30 +62,30 @@ onOne = record { rows = oneRow 1; n = 1; value = 0; len = 0; port = 2; fit = fit
 
 -- the table of one row is in good order
 good-one : isGood 32 1 (rowAt (oneRow 1)) 1 ≡ true
-unfolding isGood
+unfolding isGood rowAt storeRow
 good-one =
     let row0 : seenAt 32 (rowAt (oneRow 1)) 1 32 0 0 ≡ seen 1 0 0 = seen-row 32 (rowAt (oneRow 1)) 1 31 0 0 noRows noRows refl refl refl in
     rw row0
 
 announced-free : announcing onFree ≡ outcome (accepted 1) (oneRow 1)
-unfolding announceInto announceIn isGood announced
+unfolding announceInto announceIn isGood announced rowAt storeRow
 announced-free = refl
 
 announced-one : announcing onOne ≡ outcome (accepted 1) (oneRow 2)
-unfolding announceInto announceIn announced sink heldAt
+unfolding announceInto announceIn announced sink heldAt rowAt storeRow
 announced-one = rw good-one
 
 withdrawn-one : withdrawing onOne ≡ outcome (accepted 0) (oneRow 0)
-unfolding withdrawInto withdrawIn withdrawn heldAt
+unfolding withdrawInto withdrawIn withdrawn heldAt rowAt storeRow
 withdrawn-one = rw good-one
 
 -- lookups: nothing in the empty table, one row in the other
 none-found : lookingUp onFree ≡ found 0 0
-unfolding lookupIn
+unfolding lookupIn rowAt storeRow
 none-found = refl
 
 one-found : lookingUp onOne ≡ found 1 1
-unfolding lookupIn walk
+unfolding lookupIn walk rowAt storeRow
 one-found = refl
 
 -- images at stride 1: every address to port 0; to port 1; and through a second node
@@ -169,7 +169,7 @@ no-routes-fine = refl
 
 -- a table of no route is in good order, and its listing is the one run
 no-rows-listed : tableRuns 32 0 (rowAt []) 0 (replicate 3 0) ≡ writeRuns (run 0 (2 ^ 32 - 1) 0 ∷ []) (replicate 3 0)
-unfolding tableRuns isGood
+unfolding tableRuns isGood rowAt storeRow
 no-rows-listed = ap (λ (rs : List Run). writeRuns rs (replicate 3 0)) (listed-none 32 (tableRoutes 32 (rowAt []) 0))
 
 one-run-fits : writeRuns (run 0 (2 ^ 32 - 1) 0 ∷ []) (replicate 3 0) .answer .number ≡ 0
@@ -177,7 +177,7 @@ unfolding writeRuns
 one-run-fits = refl
 
 pub each-accepts : EachAccepts
-unfolding listScan isGood lookupIn buildInto saveInto
+unfolding listScan isGood lookupIn buildInto saveInto rowAt storeRow
 each-accepts = record {
   file-read = (emptyFile, [], ap (λ (o : Outcome Answer). o .answer .number) (empty-file 32 [] .0));
   file-write = ([], replicate 5 0, ap (λ (o : Outcome Answer). o .answer .number) (empty-file 32 (replicate 5 0) .1 (omega arith)));

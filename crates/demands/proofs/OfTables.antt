@@ -18,7 +18,7 @@ use Rattle.routes.specs.Check.{isPort, prefixFault}
 use Rattle.routes.specs.declared.Answer.{Answer}
 use Rattle.routes.specs.declared.Route.{Route}
 use Rattle.cells.specs.Rows.{Mem, child}
-use Rattle.cells.specs.Words.{capacity, rowAt, storeRow}
+use Rattle.cells.specs.Words.{capacity, rowAt, storeRow, fiveWords}
 use Rattle.cells.specs.Holds.{GoodFor, GoodOrder}
 use Rattle.cells.specs.Check.{isGood}
 use Rattle.cells.specs.Save.{wordsOf, saved, saveInto}
@@ -84,15 +84,15 @@ table-runs-refuses w rows n runs =
     on-order (writing 0 runs) w rows n (runsChecks rs runs) (λ b. cond b (writeRuns rs runs) (outcome (refused notInOrder 0) runs))
     (runs-on rs runs) (on-refused runs notInOrder 0)
 
-pub build-refuses : (w : ℕ) (list rows : List ℕ) → Refuses (buildChecks w list rows) 0 rows (buildInto w list rows)
+pub build-refuses : (w : ℕ) (list rows : List ℕ) → Refuses (buildChecks w list rows) 0 rows (buildInto fiveWords w list rows)
 unfolding buildInto
 build-refuses w list rows =
     let n = routeCount list in
-    let done-with = outcome (accepted n) (builtFrom w (routeAt list) n 0 rows) in
+    let done-with = outcome (accepted n) (builtFrom fiveWords w (routeAt list) n 0 rows) in
     let next = cond (leb n (capacity rows)) done-with (outcome (refused noRoom 0) rows) in
     on-list (writing 0 rows) (λ c. cond (eqb (c .number) 0) next (outcome c rows)) (λ m p some. refusal-on rows next m p some) w list _
     (on-test (writing 0 rows) (leb n (capacity rows)) _ (tells-le n (capacity rows)) noRoom 0 done
-    (λ b. cond b done-with (outcome (refused noRoom 0) rows)) (on-accepted 0 rows n (builtFrom w (routeAt list) n 0 rows)) (on-refused rows noRoom 0))
+    (λ b. cond b done-with (outcome (refused noRoom 0) rows)) (on-accepted 0 rows n (builtFrom fiveWords w (routeAt list) n 0 rows)) (on-refused rows noRoom 0))
 
 -- a refused update leaves the count and the rows
 kept-on : (rows : List ℕ) (n m : ℕ) → On (writing n rows) (shows m 0) (leaves m n rows)
@@ -126,11 +126,11 @@ fault-on : (rows : List ℕ) (n : ℕ) (next : Outcome Answer) (m : ℕ) → 0 <
 fault-on rows n next m some = rw (ne-eqb m 0 (λ e. omega arith)) (kept-on rows n m)
 
 pub announce-refuses : (w : ℕ) (rows : List ℕ) (n : ℕ) (q : Route) → q .value < 2 ^ w
-    → Refuses (announceChecks w rows n q) n rows (announceInto w rows n q)
+    → Refuses (announceChecks w rows n q) n rows (announceInto fiveWords w rows n q)
 unfolding announceInto announceIn
 announce-refuses w rows n q fits =
     let v = writing n rows in
-    let words = announcedWords w rows n q in
+    let words = announcedWords fiveWords w rows n q in
     let full = cond (ltb n (capacity rows)) (outcome (accepted (n + 1)) words) (leaves noRoom n rows) in
     let held = isHeld w (rowAt rows) n q in
     let good = isGood w (capacity rows) (rowAt rows) n in
@@ -157,12 +157,12 @@ announce-refuses w rows n q fits =
     on-either false false A B s t x y z = record { exact = inl ((s .wrong refl, t .wrong refl), z .exact); kept = z .kept }
 
 pub withdraw-refuses : (w : ℕ) (rows : List ℕ) (n value len : ℕ) → value < 2 ^ w
-    → Refuses (withdrawChecks w rows n value len) n rows (withdrawInto w rows n value len)
+    → Refuses (withdrawChecks w rows n value len) n rows (withdrawInto fiveWords w rows n value len)
 unfolding withdrawInto withdrawIn
 withdraw-refuses w rows n value len fits =
     let v = writing n rows in
     let q = prefixOnly value len in
-    let done-with = outcome (accepted (n - 1)) (withdrawn rowAt storeRow w rows n q) in
+    let done-with = outcome (accepted (n - 1)) (withdrawn fiveWords w rows n q) in
     let held = isHeld w (rowAt rows) n q in
     let next = cond (isGood w (capacity rows) (rowAt rows) n) (cond held done-with (leaves notHeld n rows)) (leaves notInOrder n rows) in
     on-prefix rows w n value len fits _ (λ f. cond (eqb f 0) next (leaves f n rows)) 0
@@ -170,7 +170,7 @@ withdraw-refuses w rows n value len fits =
     on-order-then v w rows n _ (λ b. cond b (cond held done-with (leaves notHeld n rows)) (leaves notInOrder n rows))
     (λ order.
     on-test v held _ (tells-held w rows n q valid order) notHeld 0 done (λ b. cond b done-with (leaves notHeld n rows))
-    (on-accepted n rows (n - 1) (withdrawn rowAt storeRow w rows n q)) (kept-on rows n notHeld))
+    (on-accepted n rows (n - 1) (withdrawn fiveWords w rows n q)) (kept-on rows n notHeld))
     (kept-on rows n notInOrder))
     (fault-on rows n next)
 

@@ -7,7 +7,7 @@ use Prim.Native.Nat.{ℕ, suc, _-_}
 use lib.Dec.{eqb, ltb}
 use Rattle.routes.specs.declared.Route.{Route}
 use Rattle.cells.specs.Rows.{Mem, child, routeOf, withRoute, withChild}
-use Rattle.cells.specs.Words.{rowAt, storeRow}
+use Rattle.cells.specs.Words.{rowAt, storeRow, fiveWords}
 use Rattle.cells.specs.Lookup.{wrongRow, bitBefore}
 use Rattle.cells.specs.Announce.{isSame}
 use Rattle.cells.specs.Check.{noRows, seenJoin, pathOn, seenAt}
@@ -49,23 +49,23 @@ module _ (k r : ℕ) (s : List ℕ) where
       (c : ℕ) (to : child (rowAt s r) (bitBefore (best .value) k) ≡ c) (s′ : List ℕ) where
     -- it is taken out further down
     pub cut-on : isLast best (rowAt s c) ≡ false → storeRow s r (withRoute (rowAt s r) best) ≡ s′
-        → cut rowAt storeRow 32 (suc k) s r q ≡ cut rowAt storeRow 32 k s′ c best
+        → cut fiveWords 32 (suc k) s r q ≡ cut fiveWords 32 k s′ c best
     unfolding cut
     cut-on more stored = rw (same, left, right, first, to, more, stored)
 
     -- or was a leaf, which falls away
     pub cut-last : isLast best (rowAt s c) ≡ true → storeRow s r (withChild (withRoute (rowAt s r) best) (bitBefore (best .value) k) 0) ≡ s′
-        → cut rowAt storeRow 32 (suc k) s r q ≡ record { rows = s′; freed = c }
+        → cut fiveWords 32 (suc k) s r q ≡ record { rows = s′; freed = c }
     unfolding cut
     cut-last last stored = rw (same, left, right, first, to, last, stored)
 
   -- the parent of the row that moves: further down, or here
   module _ (v last freed c : ℕ) (to : child (rowAt s r) (bitBefore v k) ≡ c) where
-    pub relink-on : eqb c last ≡ false → relink rowAt storeRow 32 (suc k) s r v last freed ≡ relink rowAt storeRow 32 k s c v last freed
+    pub relink-on : eqb c last ≡ false → relink fiveWords 32 (suc k) s r v last freed ≡ relink fiveWords 32 k s c v last freed
     unfolding relink
     relink-on other = rw (to, other)
 
     pub relink-here : (s′ : List ℕ) → eqb c last ≡ true → storeRow s r (withChild (rowAt s r) (bitBefore v k) freed) ≡ s′
-        → relink rowAt storeRow 32 (suc k) s r v last freed ≡ s′
+        → relink fiveWords 32 (suc k) s r v last freed ≡ s′
     unfolding relink
     relink-here s′ same stored = rw (to, same, stored)

@@ -18,7 +18,7 @@ use Rattle.routes.specs.declared.Answer.{Answer}
 use Rattle.routes.specs.declared.Route.{Route}
 use Rattle.file.specs.Bytes.{Bytes}
 use Rattle.file.specs.Calls.{readFile, writeFile}
-use Rattle.cells.specs.Words.{capacity, rowAt}
+use Rattle.cells.specs.Words.{capacity, rowAt, fiveWords}
 use Rattle.cells.specs.Holds.{GoodFor}
 use Rattle.cells.specs.Lookup.{found, lookupIn}
 use Rattle.cells.specs.Save.{saveInto}
@@ -61,11 +61,11 @@ pub record Demand1 : Type 0 where
       (lookupIn 32 (capacity rows) (rowAt rows) n a .port ≡ 0)
   pub table-announce :
       (rows : List ℕ) (n : ℕ) (q : Route) → q .value < 2 ^ 32
-      → Refuses (announceChecks 32 rows n q) n rows (announceInto 32 rows n q)
+      → Refuses (announceChecks 32 rows n q) n rows (announceInto fiveWords 32 rows n q)
   pub table-withdraw :
       (rows : List ℕ) (n value len : ℕ) → value < 2 ^ 32
-      → Refuses (withdrawChecks 32 rows n value len) n rows (withdrawInto 32 rows n value len)
-  pub table-build : (list rows : List ℕ) → Refuses (buildChecks 32 list rows) 0 rows (buildInto 32 list rows)
+      → Refuses (withdrawChecks 32 rows n value len) n rows (withdrawInto fiveWords 32 rows n value len)
+  pub table-build : (list rows : List ℕ) → Refuses (buildChecks 32 list rows) 0 rows (buildInto fiveWords 32 list rows)
   pub table-save :
       (rows : List ℕ) (n : ℕ) (list : List ℕ)
       → Refuses (saveChecks 32 rows n list) 0 list (saveInto 32 (capacity rows) (rowAt rows) n list)
@@ -103,8 +103,8 @@ pub record Demand1Decides : Type 0 where
 -- "Reading a written file returns the same routes; writing what was read returns the same bytes." All of them, and their number.
 pub record Demand2 : Type 0 where
   pub table :
-      (list rows : List ℕ) (a : ℕ) → Words 32 list → a < 2 ^ 32 → buildInto 32 list rows .answer .number ≡ 0
-      → let built : Outcome Answer = buildInto 32 list rows in
+      (list rows : List ℕ) (a : ℕ) → Words 32 list → a < 2 ^ 32 → buildInto fiveWords 32 list rows .answer .number ≡ 0
+      → let built : Outcome Answer = buildInto fiveWords 32 list rows in
       (lookupIn 32 (capacity (built .lent)) (rowAt (built .lent)) (built .answer .count) a .number ≡ 0)
       × (lookupIn 32 (capacity (built .lent)) (rowAt (built .lent)) (built .answer .count) a .port ≡ scanOf 32 (routeAt list) (routeCount list) a)
   pub image :
@@ -127,7 +127,7 @@ emptyTable rows = record { words = rows; count = 0 }
 
 -- the set of routes after the calls: "for each prefix those of its last accepted call if that was an announcement"
 abbrev pub heldAfter : List ℕ → List Call → Routes
-heldAfter rows calls q = lastPort 32 (emptyTable rows) calls q 0
+heldAfter rows calls q = lastPort fiveWords 32 (emptyTable rows) calls q 0
 
 -- DEMAND 3. "From an empty table, after any sequence of announcements and withdrawals, some refused, the routes held are for each
 -- prefix those of its last accepted call if that was an announcement; the run listing names every maximal run of addresses that
@@ -135,18 +135,18 @@ heldAfter rows calls q = lastPort 32 (emptyTable rows) calls q 0
 -- plain scan's port of the routes held and reads as many rows as the path in the trie has.
 pub record Demand3 : Type 0 where
   pub held :
-      (rows : List ℕ) (calls : List Call) → AllFit calls
-      → let t : Table = ran 32 (emptyTable rows) calls in
+      (rows : List ℕ) (calls : List Call) → AllFit 32 calls
+      → let t : Table = ran fiveWords 32 (emptyTable rows) calls in
       GoodFor 32 (capacity (t .words)) (rowAt (t .words)) (t .count) (heldAfter rows calls)
   pub looked-up :
-      (rows : List ℕ) (calls : List Call) (fit : AllFit calls) (a : ℕ) → a < 2 ^ 32
-      → let t : Table = ran 32 (emptyTable rows) calls in
+      (rows : List ℕ) (calls : List Call) (fit : AllFit 32 calls) (a : ℕ) → a < 2 ^ 32
+      → let t : Table = ran fiveWords 32 (emptyTable rows) calls in
       lookupIn 32 (capacity (t .words)) (rowAt (t .words)) (t .count) a
       ≡ found (scan (heldAfter rows calls) (bits 32 a)) (reads (held rows calls fit .placed .trie) (bits 32 a))
   pub listed :
-      (rows : List ℕ) (calls : List Call) (lent : List ℕ) (rs : List Run) → AllFit calls
+      (rows : List ℕ) (calls : List Call) (lent : List ℕ) (rs : List Run) → AllFit 32 calls
       → Lists (λ a. scan (heldAfter rows calls) (bits 32 a)) (2 ^ 32) 0 rs → length rs * 3 ≤ length lent
-      → let t : Table = ran 32 (emptyTable rows) calls in
+      → let t : Table = ran fiveWords 32 (emptyTable rows) calls in
       tableRuns 32 (capacity (t .words)) (rowAt (t .words)) (t .count) lent ≡ outcome (accepted (length rs)) (over (runWords rs) lent)
   pub listed-list :
       (list lent : List ℕ) (rs : List Run) → listCheck 32 list .number ≡ 0

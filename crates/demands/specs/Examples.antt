@@ -6,7 +6,7 @@ use lib.ListN.{replicate}
 use Rattle.promise.specs.Over.{Outcome}
 use Rattle.routes.specs.Routes.{routeAt}
 use Rattle.routes.specs.declared.Answer.{Answer}
-use Rattle.cells.specs.Words.{capacity, rowAt}
+use Rattle.cells.specs.Words.{capacity, rowAt, fiveWords}
 use Rattle.cells.specs.Lookup.{lookupIn}
 use Rattle.cells.specs.declared.Found.{Found}
 use Rattle.update.specs.Calls.{withdrawInto}
@@ -87,7 +87,7 @@ starred =
     ∷ example 5 (lookedUp 5 3) (0 ∷ 8 ∷ 4 ∷ [])
     ∷ example 6 (lookedUp 13 4) (0 ∷ 6 ∷ 3 ∷ [])
     ∷ example 7 (lookedUp 15 4) (0 ∷ 10 ∷ 5 ∷ [])
-    ∷ example 8 (afterwards (withdrawInto 32 tableI 10 (address 38 6) 6))
+    ∷ example 8 (afterwards (withdrawInto fiveWords 32 tableI 10 (address 38 6) 6))
     (0 ∷ 0 ∷ 9 ∷
     row 18 5 3 1 2
     (row 0 2 2 0 3

@@ -13,7 +13,7 @@ use Rattle.routes.specs.Scan.{listScan}
 use Rattle.routes.specs.Theorems.{Words}
 use Rattle.routes.specs.declared.Answer.{Answer}
 use Rattle.file.specs.Calls.{readFile, writeFile}
-use Rattle.cells.specs.Words.{capacity, rowAt}
+use Rattle.cells.specs.Words.{capacity, rowAt, fiveWords}
 use Rattle.cells.specs.Holds.{GoodFor}
 use Rattle.cells.specs.Lookup.{lookupIn}
 use Rattle.cells.specs.Save.{saveInto}
@@ -44,10 +44,10 @@ pub record ImageCall : Type 0 where
 
 -- the promises; an address is handed to a lookup as the value
 abbrev pub announcing : TableCall → Outcome Answer
-announcing x = announceInto 32 (x .rows) (x .n) (route (x .value) (x .len) (x .port))
+announcing x = announceInto fiveWords 32 (x .rows) (x .n) (route (x .value) (x .len) (x .port))
 
 abbrev pub withdrawing : TableCall → Outcome Answer
-withdrawing x = withdrawInto 32 (x .rows) (x .n) (x .value) (x .len)
+withdrawing x = withdrawInto fiveWords 32 (x .rows) (x .n) (x .value) (x .len)
 
 abbrev pub lookingUp : TableCall → Found
 lookingUp x = lookupIn 32 (capacity (x .rows)) (rowAt (x .rows)) (x .n) (x .value)
@@ -100,7 +100,7 @@ pub record EachAccepts : Type 0 where
   pub list-runs : (list : List ℕ) × (runs : List ℕ) × (listRuns 32 list runs .answer .number ≡ 0)
   pub table-check : (rows : List ℕ) × (n : ℕ) × (tableCheck 32 (capacity rows) (rowAt rows) n .number ≡ 0)
   pub table-lookup : (x : TableCall) × (lookingUp x .number ≡ 0)
-  pub table-build : (list : List ℕ) × (rows : List ℕ) × (buildInto 32 list rows .answer .number ≡ 0)
+  pub table-build : (list : List ℕ) × (rows : List ℕ) × (buildInto fiveWords 32 list rows .answer .number ≡ 0)
   pub table-save : (rows : List ℕ) × (n : ℕ) × (list : List ℕ) × (saveInto 32 (capacity rows) (rowAt rows) n list .answer .number ≡ 0)
   pub table-runs : (rows : List ℕ) × (n : ℕ) × (runs : List ℕ) × (tableRuns 32 (capacity rows) (rowAt rows) n runs .answer .number ≡ 0)
   pub image-build :

@@ -6,7 +6,7 @@ use native.Mathlib.Omega.{arith}
 use lib.Dec.{eqb}
 use borrow.Author.Tests.{eq-eqb, ne-eqb}
 use Rattle.routes.specs.declared.Route.{Route}
-use Rattle.cells.specs.Rows.{Mem, Closed, child, routeOf, withRoute}
+use Rattle.cells.specs.Rows.{Mem, child, routeOf, withRoute}
 use Rattle.cells.specs.Lookup.{bitBefore}
 use Rattle.cells.specs.Announce.{isSame, isOver, pick, heldAt}
 use Rattle.cells.specs.declared.Row.{Row}
@@ -77,10 +77,6 @@ module _ (w : ℕ) (M : Mem) (q : Route) (left r : ℕ) (end : Bool) (inv : held
       held-next ne =
           ap (λ (j : ℕ). heldAt w M (left - 1) j q) c-is
           ∙ sym (next-held w M q r left pos (a-is false other) (o-is false under) (λ e. ne (c-is ∙ e))) ∙ inv
-
--- a child of a row below n is below n
-pub kid-lt : (M : Mem) (n r : ℕ) (x : Row) (b : Bool) (c : ℕ) → Closed M n → r < n → x ≡ M r → c ≡ child x b → c < n
-kid-lt M n r x b c closed h is kid = subst (λ (j : ℕ). j < n) (sym (kid ∙ ap (λ (y : Row). child y b) is)) (closed r h b)
 
 -- the plan from the code's values
 pub plan-is : (w : ℕ) (x : Row) (q : Route) (k d : ℕ) (over : Bool) (lower : Route) (upper : Row) (right : Bool) (c : ℕ)

@@ -2,5 +2,4 @@
 pub mod Finding
 pub mod Sunk
 pub mod Refilled
-pub mod Walking
 pub mod Unique

@@ -1,10 +1,8 @@
 -- Defines one step of a withdrawal as the code takes it: rules, "Withdraw". Assumes nothing.
-use mathlib.Core.List.{List}
 use mathlib.Core.Bool.{Bool}
 use Prim.Native.Nat.{ℕ}
 use Rattle.routes.specs.declared.Route.{Route}
 use Rattle.cells.specs.Rows.{Mem, child, routeOf}
-use Rattle.cells.specs.Words.{rowAt, storeRow}
 use Rattle.cells.specs.Lookup.{bitBefore}
 use Rattle.cells.specs.Announce.{isSame, pick}
 use Rattle.cells.specs.Withdraw.{bestBelow, Cut}
@@ -21,5 +19,5 @@ abbrev pub refillAt : ℕ → Mem → Row → ℕ → Route → Refill
 refillAt w M x k q = refillOf x k (pick (isSame q x) (bestBelow w M k x) (routeOf x)) (pick (isSame q x) (bestBelow w M k x) q)
 
 -- the rows left, and the row freed
-abbrev pub cutAs : List ℕ → ℕ → Cut (List ℕ)
-cutAs words freed = record { rows = words; freed = freed }
+abbrev pub cutAs : {S : Type 0} → S → ℕ → Cut S
+cutAs s freed = record { rows = s; freed = freed }

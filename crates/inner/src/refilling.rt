@@ -1,9 +1,8 @@
 // Withdraw, inside a table in good order: the place that a route leaves is filled from below, down to a leaf that falls away.
 ghost use mathlib.Core.Path.{_≡_};
 ghost use Prim.Native.Nat.{_-_, _<_, _≤_};
-ghost use Rattle.cells.specs.Words.{rowAt, storeRow};
+ghost use Rattle.cells.specs.Words.{fiveWords};
 ghost use Rattle.cells.specs.Withdraw.{noRoute, orRoute, firstRoute, bestChild, bestBelow, isLast, zeroRow, cut, relink, moveRow, closeGap, withdrawn};
-ghost use Rattle.inner.specs.Plan.{Walks};
 ghost use Rattle.inner.specs.Refill.{refillOf, refillAt, cutAs};
 use crate::place::bit_before;
 use crate::place::child_of;
@@ -49,9 +48,9 @@ fn first_route(a: Route, b: Route) -> Route
 }
 
 // The best route of all from a child on, with `left` bits below it; none where there is no child.
-fn best_child(rows: &[u32], n: u32, left: u32, child: u32) -> Route
-    requires { ⌜ Walks (now rows) n × (child < n) × (left ≤ 32) ⌝ }
-    ensures { λ r. ⌜ r ≡ bestChild 32 (rowAt (now (rows .entry))) left child ⌝ }
+fn best_child(rows: &[u32], left: u32, child: u32) -> Route
+    requires { ⌜ left ≤ 32 ⌝ }
+    ensures { λ r. ⌜ r ≡ bestChild 32 (fiveWords .get (now (rows .entry))) left child ⌝ }
 {
     if child == 0 {
         return NO_ROUTE;
@@ -64,8 +63,8 @@ fn best_child(rows: &[u32], n: u32, left: u32, child: u32) -> Route
     if 32 - left < x.len {
         return route_of(x);
     }
-    let a = best_child(rows, n, left - 1, x.left);
-    let b = best_child(rows, n, left - 1, x.right);
+    let a = best_child(rows, left - 1, x.left);
+    let b = best_child(rows, left - 1, x.right);
     or_route(first_route(a, b), route_of(x))
 }
 
@@ -98,13 +97,13 @@ fn refill_with(x: Row, left: u32, holder: Route, taken: Route) -> Refill
 }
 
 // Where the row holds the route, the best of everything below takes its place and is itself to go; else the row keeps its own.
-fn refill_for(rows: &[u32], n: u32, left: u32, x: Row, q: Route) -> Refill
-    requires { ⌜ Walks (now rows) n × (left < 32) × (x .left < n) × (x .right < n) ⌝ }
-    ensures { λ r. ⌜ r ≡ refillAt 32 (rowAt (now (rows .entry))) x left q ⌝ }
+fn refill_for(rows: &[u32], left: u32, x: Row, q: Route) -> Refill
+    requires { ⌜ left < 32 ⌝ }
+    ensures { λ r. ⌜ r ≡ refillAt 32 (fiveWords .get (now (rows .entry))) x left q ⌝ }
 {
     if is_same(q, x) {
-        let a = best_child(rows, n, left, x.left);
-        let b = best_child(rows, n, left, x.right);
+        let a = best_child(rows, left, x.left);
+        let b = best_child(rows, left, x.right);
         let best = first_route(a, b);
         return refill_with(x, left, best, best);
     }
@@ -113,15 +112,15 @@ fn refill_for(rows: &[u32], n: u32, left: u32, x: Row, q: Route) -> Refill
 
 // Takes the route out of the rows from `row` on, with `left` bits below it, where `row` is no leaf that holds it: refills the
 // place, and goes on at the deeper place that it took from. Gives the row that fell away.
-fn cut_from(rows: &mut [u32], n: u32, left: u32, row: u32, q: Route) -> u32
-    requires { ⌜ Walks (now rows) n × (row < n) × (left ≤ 32) ⌝ }
-    ensures { λ r. ⌜ cutAs (now (rows .exit)) r ≡ cut rowAt storeRow 32 left (now (rows .entry)) row q ⌝ }
+fn cut_from(rows: &mut [u32], left: u32, row: u32, q: Route) -> u32
+    requires { ⌜ left ≤ 32 ⌝ }
+    ensures { λ r. ⌜ cutAs (now (rows .exit)) r ≡ cut fiveWords 32 left (now (rows .entry)) row q ⌝ }
 {
     if left == 0 {
         return row;
     }
     let x = row_at(rows, row);
-    let step = refill_for(rows, n, left - 1, x, q);
+    let step = refill_for(rows, left - 1, x, q);
     let child = step.child;
     let taken = step.taken;
     let held = with_route(x, step.holder);
@@ -130,13 +129,12 @@ fn cut_from(rows: &mut [u32], n: u32, left: u32, row: u32, q: Route) -> u32
         return child;
     }
     store_row(rows, row, held);
-    cut_from(rows, n, left - 1, child, taken)
+    cut_from(rows, left - 1, child, taken)
 }
 
 // The parent of row `last`, on the way of its value, now names row `freed`.
-fn relink_from_root(rows: &mut [u32], n: u32, value: u32, last: u32, freed: u32)
-    requires { ⌜ Walks (now rows) n ⌝ }
-    ensures { λ _. ⌜ now (rows .exit) ≡ relink rowAt storeRow 32 32 (now (rows .entry)) 0 value last freed ⌝ }
+fn relink_from_root(rows: &mut [u32], value: u32, last: u32, freed: u32)
+    ensures { λ _. ⌜ now (rows .exit) ≡ relink fiveWords 32 32 (now (rows .entry)) 0 value last freed ⌝ }
 {
     let mut left: u32 = 32;
     let mut row: u32 = 0;
@@ -154,38 +152,35 @@ fn relink_from_root(rows: &mut [u32], n: u32, value: u32, last: u32, freed: u32)
 }
 
 // Row `last` moves to the freed number, and its parent follows.
-fn move_row(rows: &mut [u32], n: u32, last: u32, freed: u32)
-    requires { ⌜ Walks (now rows) n × (last < n) × (freed < n) ⌝ }
-    ensures { λ _. ⌜ now (rows .exit) ≡ moveRow rowAt storeRow 32 (now (rows .entry)) last freed ⌝ }
+fn move_row(rows: &mut [u32], last: u32, freed: u32)
+    ensures { λ _. ⌜ now (rows .exit) ≡ moveRow fiveWords 32 (now (rows .entry)) last freed ⌝ }
 {
     let x = row_at(rows, last);
-    relink_from_root(rows, n, x.value, last, freed);
+    relink_from_root(rows, x.value, last, freed);
     let moved = row_at(rows, last);
     store_row(rows, freed, moved);
 }
 
 // The rows of a table of n routes without the route, which it holds.
 pub fn take_route(rows: &mut [u32], n: u32, q: Route)
-    requires { ⌜ Walks (now rows) n ⌝ }
-    ensures { λ _. ⌜ now (rows .exit) ≡ withdrawn rowAt storeRow 32 (now (rows .entry)) n q ⌝ }
+    ensures { λ _. ⌜ now (rows .exit) ≡ withdrawn fiveWords 32 (now (rows .entry)) n q ⌝ }
 {
-    if n == 1 {
-        store_row(rows, 0, leaf_row(NO_ROUTE));
+    if 1 < n {
+        let freed = cut_from(rows, 32, 0, q);
+        close_gap(rows, n - 1, freed);
         return;
     }
-    let freed = cut_from(rows, n, 32, 0, q);
-    close_gap(rows, n, n - 1, freed);
+    store_row(rows, 0, leaf_row(NO_ROUTE));
 }
 
 // Row `last` fills the freed number where that is another, and is then five zeros.
-fn close_gap(rows: &mut [u32], n: u32, last: u32, freed: u32)
-    requires { ⌜ Walks (now rows) n × (last < n) × (freed < n) ⌝ }
-    ensures { λ _. ⌜ now (rows .exit) ≡ closeGap rowAt storeRow 32 (cutAs (now (rows .entry)) freed) last ⌝ }
+fn close_gap(rows: &mut [u32], last: u32, freed: u32)
+    ensures { λ _. ⌜ now (rows .exit) ≡ closeGap fiveWords 32 (cutAs (now (rows .entry)) freed) last ⌝ }
 {
     if freed == last {
         store_row(rows, last, leaf_row(NO_ROUTE));
         return;
     }
-    move_row(rows, n, last, freed);
+    move_row(rows, last, freed);
     store_row(rows, last, leaf_row(NO_ROUTE));
 }

@@ -1,12 +1,9 @@
 // Announce, inside a table in good order: a route sinks to its place.
 ghost use mathlib.Core.Path.{_≡_};
-ghost use mathlib.Core.Logic.{_⊎_};
-ghost use mathlib.Core.Bool.{true};
-ghost use Prim.Native.Nat.{_+_, _-_, _<_, _≤_};
-ghost use Rattle.cells.specs.Rows.{Closed};
-ghost use Rattle.cells.specs.Words.{rowCount, rowAt, storeRow};
+ghost use Prim.Native.Nat.{_<_};
+ghost use Rattle.cells.specs.Words.{fiveWords};
 ghost use Rattle.cells.specs.Announce.{sink, heldAt, isHeld, announced};
-ghost use Rattle.inner.specs.Plan.{planOf, leafInto, Walks, Tabled, FitsAt};
+ghost use Rattle.inner.specs.Plan.{planOf, leafInto};
 use crate::place::bit_before;
 use crate::place::child_of;
 use crate::place::is_over;
@@ -48,8 +45,7 @@ fn plan_for(x: Row, q: Route, left: u32) -> Plan
 
 // The new place gets row n, and its parent names it.
 fn add_leaf(rows: &mut [u32], n: u32, row: u32, plan: Plan)
-    requires { ⌜ (row < rowCount (now rows)) × (n < rowCount (now rows)) ⌝ }
-    ensures { λ _. ⌜ now (rows .exit) ≡ leafInto (now (rows .entry)) n row plan ⌝ }
+    ensures { λ _. ⌜ now (rows .exit) ≡ leafInto fiveWords (now (rows .entry)) n row plan ⌝ }
 {
     let upper = plan.upper;
     let lower = plan.lower;
@@ -58,9 +54,8 @@ fn add_leaf(rows: &mut [u32], n: u32, row: u32, plan: Plan)
 }
 
 // Whether the rows hold the route's prefix. A place that it would take itself has it nowhere below.
-pub(crate) fn held_from_root(rows: &[u32], n: u32, q: Route) -> bool
-    requires { ⌜ Walks (now rows) n ⌝ }
-    ensures { λ r. ⌜ r ≡ heldAt 32 (rowAt (now (rows .entry))) 32 0 q ⌝ }
+pub(crate) fn held_from_root(rows: &[u32], q: Route) -> bool
+    ensures { λ r. ⌜ r ≡ heldAt 32 (fiveWords .get (now (rows .entry))) 32 0 q ⌝ }
 {
     let mut left: u32 = 32;
     let mut row: u32 = 0;
@@ -83,8 +78,7 @@ pub(crate) fn held_from_root(rows: &[u32], n: u32, q: Route) -> bool
 
 // The route sinks from the root to its place; a new place gets row n.
 pub(crate) fn sink_from_root(rows: &mut [u32], n: u32, route: Route)
-    requires { ⌜ Walks (now rows) n × FitsAt 32 (now rows) n 32 0 route ⌝ }
-    ensures { λ _. ⌜ now (rows .exit) ≡ sink rowAt storeRow 32 32 (now (rows .entry)) n 0 route ⌝ }
+    ensures { λ _. ⌜ now (rows .exit) ≡ sink fiveWords 32 32 (now (rows .entry)) n 0 route ⌝ }
 {
     let mut q = route;
     let mut left: u32 = 32;
@@ -113,19 +107,17 @@ pub(crate) fn sink_from_root(rows: &mut [u32], n: u32, route: Route)
 
 // Whether a table of n routes holds the route's prefix.
 pub fn is_held(rows: &[u32], n: u32, q: Route) -> bool
-    requires { ⌜ Tabled (now rows) n ⌝ }
-    ensures { λ r. ⌜ r ≡ isHeld 32 (rowAt (now (rows .entry))) n q ⌝ }
+    ensures { λ r. ⌜ r ≡ isHeld 32 (fiveWords .get (now (rows .entry))) n q ⌝ }
 {
     if n == 0 {
         return false;
     }
-    held_from_root(rows, n, q)
+    held_from_root(rows, q)
 }
 
 // The rows with the route, for which there is a row if its prefix is new.
 pub fn put_route(rows: &mut [u32], n: u32, q: Route)
-    requires { ⌜ Tabled (now rows) n × ((n < rowCount (now rows)) ⊎ (isHeld 32 (rowAt (now rows)) n q ≡ true)) ⌝ }
-    ensures { λ _. ⌜ now (rows .exit) ≡ announced rowAt storeRow 32 (now (rows .entry)) n q ⌝ }
+    ensures { λ _. ⌜ now (rows .exit) ≡ announced fiveWords 32 (now (rows .entry)) n q ⌝ }
 {
     if n == 0 {
         store_row(rows, 0, leaf_row(q));

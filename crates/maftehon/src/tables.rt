@@ -2,7 +2,7 @@
 ghost use mathlib.Core.Path.{_≡_};
 ghost use Rattle.promise.specs.Over.{outcome};
 ghost use Rattle.routes.specs.Routes.{route};
-ghost use Rattle.cells.specs.Words.{capacity, rowAt};
+ghost use Rattle.cells.specs.Words.{capacity, rowAt, fiveWords};
 ghost use Rattle.cells.specs.Lookup.{lookupIn};
 ghost use Rattle.cells.specs.Save.{saveInto};
 ghost use Rattle.table.specs.Good.{tableCheck};
@@ -39,7 +39,7 @@ pub extern "C" fn mft_table_announce(
     port: u32,
     answer: &mut [u32; 2],
 ) -> u32
-    ensures { λ r. ⌜ outcome (reply r (now (answer .exit))) (now (rows .exit)) ≡ replied (announceInto 32 (now (rows .entry)) n (route value length port)) ⌝ }
+    ensures { λ r. ⌜ outcome (reply r (now (answer .exit))) (now (rows .exit)) ≡ replied (announceInto fiveWords 32 (now (rows .entry)) n (route value length port)) ⌝ }
 {
     counted(update::announce(rows, n, value, length, port), answer)
 }
@@ -52,14 +52,14 @@ pub extern "C" fn mft_table_withdraw(
     length: u32,
     answer: &mut [u32; 2],
 ) -> u32
-    ensures { λ r. ⌜ outcome (reply r (now (answer .exit))) (now (rows .exit)) ≡ replied (withdrawInto 32 (now (rows .entry)) n value length) ⌝ }
+    ensures { λ r. ⌜ outcome (reply r (now (answer .exit))) (now (rows .exit)) ≡ replied (withdrawInto fiveWords 32 (now (rows .entry)) n value length) ⌝ }
 {
     counted(update::withdraw(rows, n, value, length), answer)
 }
 
 #[no_mangle]
 pub extern "C" fn mft_table_build(list: &[u32], rows: &mut [u32], answer: &mut [u32; 2]) -> u32
-    ensures { λ r. ⌜ outcome (reply r (now (answer .exit))) (now (rows .exit)) ≡ replied (buildInto 32 (now (list .entry)) (now (rows .entry))) ⌝ }
+    ensures { λ r. ⌜ outcome (reply r (now (answer .exit))) (now (rows .exit)) ≡ replied (buildInto fiveWords 32 (now (list .entry)) (now (rows .entry))) ⌝ }
 {
     counted(update::build(list, rows), answer)
 }

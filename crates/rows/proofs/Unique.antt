@@ -4,6 +4,8 @@ use denote.Ref.{now}
 use Rattle.promise.specs.Determined.{Determined}
 use Rattle.rows.proofs.capacity_of.Kinds as capacity-of-kinds
 use Rattle.rows.proofs.capacity_of.Reads as capacity-of-reads
+use Rattle.rows.proofs.whole_row.Kinds as whole-row-kinds
+use Rattle.rows.proofs.whole_row.Reads as whole-row-reads
 use Rattle.rows.proofs.row_at.Kinds as row-at-kinds
 use Rattle.rows.proofs.row_at.Reads as row-at-reads
 use Rattle.rows.proofs.store_row.Kinds as store-row-kinds
@@ -11,6 +13,9 @@ use Rattle.rows.proofs.store_row.Reads as store-row-reads
 
 capacity-of-unique : Determined 1 capacity-of-kinds.ps capacity-of-kinds.r capacity-of-reads.Post (λ κs x s. x)
 capacity-of-unique κs a x y s t p q = p ∙ sym q
+
+whole-row-unique : Determined 1 whole-row-kinds.ps whole-row-kinds.r whole-row-reads.Post (λ κs x s. x)
+whole-row-unique κs a x y s t p q = p ∙ sym q
 
 row-at-unique : Determined 1 row-at-kinds.ps row-at-kinds.r row-at-reads.Post (λ κs x s. x)
 row-at-unique κs a x y s t p q = p ∙ sym q

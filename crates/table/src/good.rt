@@ -10,7 +10,7 @@ use crate::is_wrong;
 use cells::Row;
 use cells::Seen;
 use prefix::Prefix;
-use rows::row_at;
+use rows::whole_row;
 
 const NO_ROWS: Seen = Seen {
     wrong: false,
@@ -109,7 +109,7 @@ pub(crate) fn seen_at(rows: &[u32], n: u32, path: Prefix, row: u32) -> Seen
     requires { ⌜ (row < n) × (n ≤ rowCount (now rows)) × Valid 32 (path .value) (path .len) ⌝ }
     ensures { λ r. ⌜ r ≡ seenAt 32 (rowAt (now (rows .entry))) n (32 - path .len) (path .value) row ⌝ }
 {
-    let x = row_at(rows, row);
+    let x = whole_row(rows, row);
     if is_wrong(x, n, path.value, path.len) {
         return WRONG_ROWS;
     }

@@ -13,7 +13,7 @@ use prefix::Prefix;
 use routes::Answer;
 use routes::refusal::NOT_IN_ORDER;
 use rows::capacity_of;
-use rows::row_at;
+use rows::whole_row;
 
 mod good;
 
@@ -106,7 +106,7 @@ pub fn lookup(rows: &[u32], n: u32, address: u32) -> Found
     let mut best: u32 = 0;
     let mut reads: u32 = 0;
     loop {
-        let x = row_at(rows, row);
+        let x = whole_row(rows, row);
         let depth = 32 - left;
         reads += 1;
         if is_wrong(x, n, address, depth) {

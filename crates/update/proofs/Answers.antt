@@ -12,87 +12,79 @@ use Rattle.routes.specs.Refusals.{noRoom, notHeld, notInOrder, accepted}
 use Rattle.routes.specs.Check.{prefixFault, routeFault}
 use Rattle.routes.specs.declared.Answer.{Answer}
 use Rattle.routes.specs.declared.Route.{Route}
-use Rattle.cells.specs.Words.{rowCount, capacity, rowAt, storeRow}
+use Rattle.cells.specs.Rows.{Layout}
 use Rattle.cells.specs.Check.{isGood}
 use Rattle.cells.specs.Announce.{isHeld}
 use Rattle.cells.specs.Withdraw.{withdrawn}
-use Rattle.cells.proofs.Closed.{placed-closed}
-use Rattle.order.proofs.Good.{check-is-good}
-use Rattle.inner.specs.Plan.{Walks, Tabled}
-use Rattle.inner.proofs.Walking.{walks-of}
 use Rattle.update.specs.Calls.{keeping, leaves, announcedWords, announceIn, announceInto, prefixOnly, withdrawIn, withdrawInto}
-
--- a table in good order can be updated
-pub good-tabled : (ws : List ℕ) (n : ℕ) → isGood 32 (capacity ws) (rowAt ws) n ≡ true → Tabled ws n
-good-tabled ws n e =
-    let g = check-is-good 32 (capacity ws) (rowAt ws) n .0 e in
-    record { few = g .1 .few; closed = placed-closed 32 (rowAt ws) n (g .0) (g .1 .placed) }
 
 -- a result and the memory with it
 both-are : (r r′ : Answer) (ws ws′ : List ℕ) → r ≡ r′ → ws ≡ ws′ → outcome r ws ≡ outcome r′ ws′
 both-are r r′ ws ws′ e f = ap₂ (λ (a : Answer) (v : List ℕ). outcome a v) e f
 
-module _ (ws : List ℕ) (n : ℕ) (q : Route) (a : Bool) (found : a ≡ isHeld 32 (rowAt ws) n q) where
+module _ (L : Layout (List ℕ)) (w : ℕ) (ws : List ℕ) (n : ℕ) (q : Route) (a : Bool) (found : a ≡ isHeld w (L .get ws) n q) where
   -- a held prefix is in a table that has rows
-  pub held-walks : Tabled ws n → a ≡ true → Walks ws n
-  held-walks h e = walks-of ws n h (λ z. false≢true (sym (rw (eq-eqb n 0 z)) ∙ sym found ∙ e))
+  pub held-some : a ≡ true → 0 < n
+  held-some e =
+      let ne : (n ≡ 0 → ⊥) = (λ z. false≢true (sym (rw (eq-eqb n 0 z)) ∙ sym found ∙ e)) in
+      omega arith
 
   module _ (r : Answer) (ws′ : List ℕ) where
-    pub announce-held : a ≡ true → r ≡ accepted n → ws′ ≡ announcedWords 32 ws n q → outcome r ws′ ≡ announceIn 32 ws n q
+    pub announce-held : a ≡ true → r ≡ accepted n → ws′ ≡ announcedWords L w ws n q → outcome r ws′ ≡ announceIn L w ws n q
     unfolding announceIn
-    announce-held e f g = both-are r (accepted n) ws′ (announcedWords 32 ws n q) f g ∙ sym (rw (sym found ∙ e))
+    announce-held e f g = both-are r (accepted n) ws′ (announcedWords L w ws n q) f g ∙ sym (rw (sym found ∙ e))
 
-    pub announce-new : a ≡ false → (c : ℕ) → c ≡ capacity ws → n < c → r ≡ accepted (n + 1) → ws′ ≡ announcedWords 32 ws n q
-        → outcome r ws′ ≡ announceIn 32 ws n q
+    pub announce-new : a ≡ false → (c : ℕ) → c ≡ L .room ws → n < c → r ≡ accepted (n + 1) → ws′ ≡ announcedWords L w ws n q
+        → outcome r ws′ ≡ announceIn L w ws n q
     unfolding announceIn
     announce-new e c k h f g =
-        both-are r (accepted (n + 1)) ws′ (announcedWords 32 ws n q) f g ∙ sym (rw (sym found ∙ e, lt-ltb n (capacity ws) (omega arith)))
+        both-are r (accepted (n + 1)) ws′ (announcedWords L w ws n q) f g ∙ sym (rw (sym found ∙ e, lt-ltb n (L .room ws) (omega arith)))
 
-    pub withdraw-held : a ≡ true → r ≡ accepted (n - 1) → ws′ ≡ withdrawn rowAt storeRow 32 ws n q → outcome r ws′ ≡ withdrawIn 32 ws n q
+    pub withdraw-held : a ≡ true → r ≡ accepted (n - 1) → ws′ ≡ withdrawn L w ws n q → outcome r ws′ ≡ withdrawIn L w ws n q
     unfolding withdrawIn
-    withdraw-held e f g = both-are r (accepted (n - 1)) ws′ (withdrawn rowAt storeRow 32 ws n q) f g ∙ sym (rw (sym found ∙ e))
+    withdraw-held e f g = both-are r (accepted (n - 1)) ws′ (withdrawn L w ws n q) f g ∙ sym (rw (sym found ∙ e))
 
-  pub announce-full : (r : Answer) → a ≡ false → (c : ℕ) → c ≡ capacity ws → c ≤ n → r ≡ keeping noRoom n → outcome r ws ≡ announceIn 32 ws n q
+  pub announce-full : (r : Answer) → a ≡ false → (c : ℕ) → c ≡ L .room ws → c ≤ n → r ≡ keeping noRoom n → outcome r ws ≡ announceIn L w ws n q
   unfolding announceIn
   announce-full r e c k h f =
-      both-are r (keeping noRoom n) ws ws f refl ∙ sym (rw (sym found ∙ e, le-ltb n (capacity ws) (omega arith)))
+      both-are r (keeping noRoom n) ws ws f refl ∙ sym (rw (sym found ∙ e, le-ltb n (L .room ws) (omega arith)))
 
-  pub withdraw-missing : (r : Answer) → a ≡ false → r ≡ keeping notHeld n → outcome r ws ≡ withdrawIn 32 ws n q
+  pub withdraw-missing : (r : Answer) → a ≡ false → r ≡ keeping notHeld n → outcome r ws ≡ withdrawIn L w ws n q
   unfolding withdrawIn
   withdraw-missing r e f = both-are r (keeping notHeld n) ws ws f refl ∙ sym (rw (sym found ∙ e))
 
 -- the shell of an announcement
-module _ (ws : List ℕ) (n : ℕ) (q : Route) (fault : ℕ) (is : fault ≡ routeFault 32 q 0) where
-  pub announce-fault : (r : Answer) → (fault ≡ 0 → ⊥) → r ≡ keeping fault n → outcome r ws ≡ announceInto 32 ws n q
+module _ (L : Layout (List ℕ)) (w : ℕ) (ws : List ℕ) (n : ℕ) (q : Route) (fault : ℕ) (is : fault ≡ routeFault w q 0) where
+  pub announce-fault : (r : Answer) → (fault ≡ 0 → ⊥) → r ≡ keeping fault n → outcome r ws ≡ announceInto L w ws n q
   unfolding announceInto
   announce-fault r ne f =
-      both-are r (keeping (routeFault 32 q 0) n) ws ws (f ∙ ap (λ (m : ℕ). keeping m n) is) refl
-      ∙ sym (rw (ne-eqb (routeFault 32 q 0) 0 (λ e. ne (is ∙ e))))
+      both-are r (keeping (routeFault w q 0) n) ws ws (f ∙ ap (λ (m : ℕ). keeping m n) is) refl
+      ∙ sym (rw (ne-eqb (routeFault w q 0) 0 (λ e. ne (is ∙ e))))
 
-  module _ (fine : fault ≡ 0) (g : Bool) (checked : g ≡ isGood 32 (capacity ws) (rowAt ws) n) where
-    pub announce-good : g ≡ true → (o : Outcome Answer) → o ≡ announceIn 32 ws n q → o ≡ announceInto 32 ws n q
+  module _ (fine : fault ≡ 0) (g : Bool) (checked : g ≡ isGood w (L .room ws) (L .get ws) n) where
+    pub announce-good : g ≡ true → (o : Outcome Answer) → o ≡ announceIn L w ws n q → o ≡ announceInto L w ws n q
     unfolding announceInto
-    announce-good e o f = f ∙ sym (rw (eq-eqb (routeFault 32 q 0) 0 (sym is ∙ fine), sym checked ∙ e))
+    announce-good e o f = f ∙ sym (rw (eq-eqb (routeFault w q 0) 0 (sym is ∙ fine), sym checked ∙ e))
 
-    pub announce-wrong : g ≡ false → (r : Answer) → r ≡ keeping notInOrder n → outcome r ws ≡ announceInto 32 ws n q
+    pub announce-wrong : g ≡ false → (r : Answer) → r ≡ keeping notInOrder n → outcome r ws ≡ announceInto L w ws n q
     unfolding announceInto
     announce-wrong e r f =
-        both-are r (keeping notInOrder n) ws ws f refl ∙ sym (rw (eq-eqb (routeFault 32 q 0) 0 (sym is ∙ fine), sym checked ∙ e))
+        both-are r (keeping notInOrder n) ws ws f refl ∙ sym (rw (eq-eqb (routeFault w q 0) 0 (sym is ∙ fine), sym checked ∙ e))
 
 -- the shell of a withdrawal
-module _ (ws : List ℕ) (n value len : ℕ) (fault : ℕ) (is : fault ≡ prefixFault 32 value len 0) where
-  pub withdraw-fault : (r : Answer) → (fault ≡ 0 → ⊥) → r ≡ keeping fault n → outcome r ws ≡ withdrawInto 32 ws n value len
+module _ (L : Layout (List ℕ)) (w : ℕ) (ws : List ℕ) (n value len : ℕ) (fault : ℕ) (is : fault ≡ prefixFault w value len 0) where
+  pub withdraw-fault : (r : Answer) → (fault ≡ 0 → ⊥) → r ≡ keeping fault n → outcome r ws ≡ withdrawInto L w ws n value len
   unfolding withdrawInto
   withdraw-fault r ne f =
-      both-are r (keeping (prefixFault 32 value len 0) n) ws ws (f ∙ ap (λ (m : ℕ). keeping m n) is) refl
-      ∙ sym (rw (ne-eqb (prefixFault 32 value len 0) 0 (λ e. ne (is ∙ e))))
+      both-are r (keeping (prefixFault w value len 0) n) ws ws (f ∙ ap (λ (m : ℕ). keeping m n) is) refl
+      ∙ sym (rw (ne-eqb (prefixFault w value len 0) 0 (λ e. ne (is ∙ e))))
 
-  module _ (fine : fault ≡ 0) (g : Bool) (checked : g ≡ isGood 32 (capacity ws) (rowAt ws) n) where
-    pub withdraw-good : g ≡ true → (o : Outcome Answer) → o ≡ withdrawIn 32 ws n (prefixOnly value len) → o ≡ withdrawInto 32 ws n value len
+  module _ (fine : fault ≡ 0) (g : Bool) (checked : g ≡ isGood w (L .room ws) (L .get ws) n) where
+    pub withdraw-good : g ≡ true → (o : Outcome Answer) → o ≡ withdrawIn L w ws n (prefixOnly value len) → o ≡ withdrawInto L w ws n value len
     unfolding withdrawInto
-    withdraw-good e o f = f ∙ sym (rw (eq-eqb (prefixFault 32 value len 0) 0 (sym is ∙ fine), sym checked ∙ e))
+    withdraw-good e o f = f ∙ sym (rw (eq-eqb (prefixFault w value len 0) 0 (sym is ∙ fine), sym checked ∙ e))
 
-    pub withdraw-wrong : g ≡ false → (r : Answer) → r ≡ keeping notInOrder n → outcome r ws ≡ withdrawInto 32 ws n value len
+    pub withdraw-wrong : g ≡ false → (r : Answer) → r ≡ keeping notInOrder n → outcome r ws ≡ withdrawInto L w ws n value len
     unfolding withdrawInto
     withdraw-wrong e r f =
-        both-are r (keeping notInOrder n) ws ws f refl ∙ sym (rw (eq-eqb (prefixFault 32 value len 0) 0 (sym is ∙ fine), sym checked ∙ e))
+        both-are r (keeping notInOrder n) ws ws f refl ∙ sym (rw (eq-eqb (prefixFault w value len 0) 0 (sym is ∙ fine), sym checked ∙ e))

@@ -9,7 +9,7 @@ use Rattle.routes.specs.Routes.{route, routeAt, routeCount}
 use Rattle.routes.specs.Check.{prefixFault, routeFault, listCheck}
 use Rattle.routes.specs.declared.Answer.{Answer}
 use Rattle.routes.specs.declared.Route.{Route}
-use Rattle.cells.specs.Words.{capacity, rowAt, storeRow}
+use Rattle.cells.specs.Rows.{Layout}
 use Rattle.cells.specs.Check.{isGood}
 use Rattle.cells.specs.Announce.{isHeld, announced}
 use Rattle.cells.specs.Withdraw.{withdrawn}
@@ -23,20 +23,20 @@ abbrev pub leaves : ℕ → ℕ → List ℕ → Outcome Answer
 leaves number n words = outcome (keeping number n) words
 
 -- the words of a table in good order, with the route
-abbrev pub announcedWords : ℕ → List ℕ → ℕ → Route → List ℕ
-announcedWords w words n q = announced rowAt storeRow w words n q
+abbrev pub announcedWords : Layout (List ℕ) → ℕ → List ℕ → ℕ → Route → List ℕ
+announcedWords L w words n q = announced L w words n q
 
 -- "then 9": "a new prefix at full capacity"
-unfoldable pub announceIn : ℕ → List ℕ → ℕ → Route → Outcome Answer
-announceIn w words n q =
-    cond (isHeld w (rowAt words) n q) (outcome (accepted n) (announcedWords w words n q))
-    (cond (ltb n (capacity words)) (outcome (accepted (n + 1)) (announcedWords w words n q)) (leaves noRoom n words))
+unfoldable pub announceIn : Layout (List ℕ) → ℕ → List ℕ → ℕ → Route → Outcome Answer
+announceIn L w words n q =
+    cond (isHeld w (L .get words) n q) (outcome (accepted n) (announcedWords L w words n q))
+    (cond (ltb n (L .room words)) (outcome (accepted (n + 1)) (announcedWords L w words n q)) (leaves noRoom n words))
 
 -- "Announce ...: 4, 5, 6 on the arguments, 11, then 9"
-unfoldable pub announceInto : ℕ → List ℕ → ℕ → Route → Outcome Answer
-announceInto w words n q =
+unfoldable pub announceInto : Layout (List ℕ) → ℕ → List ℕ → ℕ → Route → Outcome Answer
+announceInto L w words n q =
     cond (eqb (routeFault w q 0) 0)
-    (cond (isGood w (capacity words) (rowAt words) n) (announceIn w words n q) (leaves notInOrder n words))
+    (cond (isGood w (L .room words) (L .get words) n) (announceIn L w words n q) (leaves notInOrder n words))
     (leaves (routeFault w q 0) n words)
 
 -- a withdrawal names a prefix alone
@@ -44,27 +44,27 @@ abbrev pub prefixOnly : ℕ → ℕ → Route
 prefixOnly value len = route value len 0
 
 -- "then ... 10": "withdrawn prefix not held"
-unfoldable pub withdrawIn : ℕ → List ℕ → ℕ → Route → Outcome Answer
-withdrawIn w words n q =
-    cond (isHeld w (rowAt words) n q) (outcome (accepted (n - 1)) (withdrawn rowAt storeRow w words n q)) (leaves notHeld n words)
+unfoldable pub withdrawIn : Layout (List ℕ) → ℕ → List ℕ → ℕ → Route → Outcome Answer
+withdrawIn L w words n q =
+    cond (isHeld w (L .get words) n q) (outcome (accepted (n - 1)) (withdrawn L w words n q)) (leaves notHeld n words)
 
 -- "... and withdraw: 4, 5 ... (withdraw has no port), 11, then ... 10"
-unfoldable pub withdrawInto : ℕ → List ℕ → ℕ → ℕ → ℕ → Outcome Answer
-withdrawInto w words n value len =
+unfoldable pub withdrawInto : Layout (List ℕ) → ℕ → List ℕ → ℕ → ℕ → ℕ → Outcome Answer
+withdrawInto L w words n value len =
     cond (eqb (prefixFault w value len 0) 0)
-    (cond (isGood w (capacity words) (rowAt words) n) (withdrawIn w words n (prefixOnly value len)) (leaves notInOrder n words))
+    (cond (isGood w (L .room words) (L .get words) n) (withdrawIn L w words n (prefixOnly value len)) (leaves notInOrder n words))
     (leaves (prefixFault w value len 0) n words)
 
 -- k routes from number i on, each announced into a table of as many as came before it
-unfoldable pub builtFrom : ℕ → (ℕ → Route) → ℕ → ℕ → List ℕ → List ℕ
-builtFrom w R zero i words = words
-builtFrom w R (suc k) i words = builtFrom w R k (i + 1) (announcedWords w words i (R i))
+unfoldable pub builtFrom : Layout (List ℕ) → ℕ → (ℕ → Route) → ℕ → ℕ → List ℕ → List ℕ
+builtFrom L w R zero i words = words
+builtFrom L w R (suc k) i words = builtFrom L w R k (i + 1) (announcedWords L w words i (R i))
 
 -- "Building a table from a list gives what announcing its routes in list order into an empty table gives": the list's checks, then 9
-unfoldable pub buildInto : ℕ → List ℕ → List ℕ → Outcome Answer
-buildInto w list words =
+unfoldable pub buildInto : Layout (List ℕ) → ℕ → List ℕ → List ℕ → Outcome Answer
+buildInto L w list words =
     cond (eqb (listCheck w list .number) 0)
-    (cond (leb (routeCount list) (capacity words))
-    (outcome (accepted (routeCount list)) (builtFrom w (routeAt list) (routeCount list) 0 words))
+    (cond (leb (routeCount list) (L .room words))
+    (outcome (accepted (routeCount list)) (builtFrom L w (routeAt list) (routeCount list) 0 words))
     (outcome (refused noRoom 0) words))
     (outcome (listCheck w list) words)

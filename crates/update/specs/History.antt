@@ -8,6 +8,7 @@ use Rattle.bits.specs.Bits.{Bits, prefixBits, same}
 use Rattle.trie.specs.Routes.{Routes, noRoutes, upd}
 use Rattle.routes.specs.declared.Answer.{Answer}
 use Rattle.routes.specs.declared.Route.{Route}
+use Rattle.cells.specs.Rows.{Layout}
 use Rattle.update.specs.Calls.{announceInto, withdrawInto}
 
 pub data Call : Type 0 where
@@ -15,9 +16,9 @@ pub data Call : Type 0 where
   withdrawing : ℕ → ℕ → Call
 
 -- what a call does to a table of n routes
-abbrev pub outcomeOf : ℕ → List ℕ → ℕ → Call → Outcome Answer
-outcomeOf w words n (announcing q) = announceInto w words n q
-outcomeOf w words n (withdrawing value len) = withdrawInto w words n value len
+abbrev pub outcomeOf : Layout (List ℕ) → ℕ → List ℕ → ℕ → Call → Outcome Answer
+outcomeOf L w words n (announcing q) = announceInto L w words n q
+outcomeOf L w words n (withdrawing value len) = withdrawInto L w words n value len
 
 -- the rows and the count as last returned
 pub record Table : Type 0 where
@@ -25,15 +26,15 @@ pub record Table : Type 0 where
   pub count : ℕ
 
 -- one call after the other, each handed what the one before it left
-abbrev pub after : ℕ → Table → Call → Table
-after w t c = record { words = outcomeOf w (t .words) (t .count) c .lent; count = outcomeOf w (t .words) (t .count) c .answer .count }
+abbrev pub after : Layout (List ℕ) → ℕ → Table → Call → Table
+after L w t c = record { words = outcomeOf L w (t .words) (t .count) c .lent; count = outcomeOf L w (t .words) (t .count) c .answer .count }
 
-abbrev pub isAccepted : ℕ → Table → Call → Bool
-isAccepted w t c = eqb (outcomeOf w (t .words) (t .count) c .answer .number) 0
+abbrev pub isAccepted : Layout (List ℕ) → ℕ → Table → Call → Bool
+isAccepted L w t c = eqb (outcomeOf L w (t .words) (t .count) c .answer .number) 0
 
-unfoldable pub ran : ℕ → Table → List Call → Table
-ran w t [] = t
-ran w t (c ∷ cs) = ran w (after w t c) cs
+unfoldable pub ran : Layout (List ℕ) → ℕ → Table → List Call → Table
+ran L w t [] = t
+ran L w t (c ∷ cs) = ran L w (after L w t c) cs
 
 -- the prefix that a call is about, and the port that it leaves there: 0 after a withdrawal
 abbrev pub prefixOf : ℕ → Call → Bits
@@ -46,7 +47,7 @@ portOf (withdrawing value len) = 0
 
 -- "for each prefix those of its last accepted call if that was an announcement": the port of a prefix after the calls, where it
 -- was `port` before them
-unfoldable pub lastPort : ℕ → Table → List Call → Bits → ℕ → ℕ
-lastPort w t [] q port = port
-lastPort w t (c ∷ cs) q port =
-    lastPort w (after w t c) cs q (cond (isAccepted w t c) (cond (same q (prefixOf w c)) (portOf c) port) port)
+unfoldable pub lastPort : Layout (List ℕ) → ℕ → Table → List Call → Bits → ℕ → ℕ
+lastPort L w t [] q port = port
+lastPort L w t (c ∷ cs) q port =
+    lastPort L w (after L w t c) cs q (cond (isAccepted L w t c) (cond (same q (prefixOf w c)) (portOf c) port) port)

@@ -2,11 +2,10 @@
 // update that assumes good order.
 ghost use mathlib.Core.Path.{_≡_};
 ghost use Prim.Native.Nat.{_-_, _<_};
+ghost use Rattle.cells.specs.Words.{fiveWords};
 ghost use Rattle.promise.specs.Over.{outcome};
 ghost use Rattle.routes.specs.Routes.{route, routeAt};
-ghost use Rattle.update.specs.Fills.{Fills};
 ghost use Rattle.update.specs.Calls.{keeping, announceIn, announceInto, prefixOnly, withdrawIn, withdrawInto, builtFrom, buildInto};
-ghost use Rattle.inner.specs.Plan.{Tabled};
 use inner::refilling::take_route;
 use inner::sinking::is_held;
 use inner::sinking::put_route;
@@ -30,8 +29,7 @@ fn keeping(number: u32, n: u32) -> Answer
 
 // The inner announcement, in a table in good order: a held prefix gets the new port, a new one row n; 9 where there is none.
 fn announce_in(rows: &mut [u32], n: u32, q: Route) -> Answer
-    requires { ⌜ Tabled (now rows) n ⌝ }
-    ensures { λ r. ⌜ outcome r (now (rows .exit)) ≡ announceIn 32 (now (rows .entry)) n q ⌝ }
+    ensures { λ r. ⌜ outcome r (now (rows .exit)) ≡ announceIn fiveWords 32 (now (rows .entry)) n q ⌝ }
 {
     if is_held(rows, n, q) {
         put_route(rows, n, q);
@@ -46,8 +44,7 @@ fn announce_in(rows: &mut [u32], n: u32, q: Route) -> Answer
 
 // The inner withdrawal, in a table in good order; 10 where the prefix is not held.
 fn withdraw_in(rows: &mut [u32], n: u32, q: Route) -> Answer
-    requires { ⌜ Tabled (now rows) n ⌝ }
-    ensures { λ r. ⌜ outcome r (now (rows .exit)) ≡ withdrawIn 32 (now (rows .entry)) n q ⌝ }
+    ensures { λ r. ⌜ outcome r (now (rows .exit)) ≡ withdrawIn fiveWords 32 (now (rows .entry)) n q ⌝ }
 {
     if is_held(rows, n, q) {
         take_route(rows, n, q);
@@ -59,7 +56,7 @@ fn withdraw_in(rows: &mut [u32], n: u32, q: Route) -> Answer
 // Announces a route to a table of n routes; the count is the new n. Refuses, at place 0: 4, the length is above 32; 5, bits are
 // set past it; 6, the port is outside 1..4094; 11, the table is not in good order; 9, the prefix is new and the table full.
 pub fn announce(rows: &mut [u32], n: u32, value: u32, len: u32, port: u32) -> Answer
-    ensures { λ r. ⌜ outcome r (now (rows .exit)) ≡ announceInto 32 (now (rows .entry)) n (route value len port) ⌝ }
+    ensures { λ r. ⌜ outcome r (now (rows .exit)) ≡ announceInto fiveWords 32 (now (rows .entry)) n (route value len port) ⌝ }
 {
     let q = Route { value, len, port };
     let fault = routes::route_fault(q);
@@ -75,7 +72,7 @@ pub fn announce(rows: &mut [u32], n: u32, value: u32, len: u32, port: u32) -> An
 // Withdraws a prefix from a table of n routes; the count is the new n. Refuses, at place 0: 4 and 5 as announce does; 11, the
 // table is not in good order; 10, the prefix is not held.
 pub fn withdraw(rows: &mut [u32], n: u32, value: u32, len: u32) -> Answer
-    ensures { λ r. ⌜ outcome r (now (rows .exit)) ≡ withdrawInto 32 (now (rows .entry)) n value len ⌝ }
+    ensures { λ r. ⌜ outcome r (now (rows .exit)) ≡ withdrawInto fiveWords 32 (now (rows .entry)) n value len ⌝ }
 {
     let fault = routes::prefix_fault(value, len);
     if fault != 0 {
@@ -97,8 +94,7 @@ pub fn withdraw(rows: &mut [u32], n: u32, value: u32, len: u32) -> Answer
 
 // The first k routes of a valid list, each announced into the table of those before it.
 fn fill(list: &[u32], rows: &mut [u32], k: u32)
-    requires { ⌜ Fills (now list) (now rows) k ⌝ }
-    ensures { λ _. ⌜ now (rows .exit) ≡ builtFrom 32 (routeAt (now (list .entry))) k 0 (now (rows .entry)) ⌝ }
+    ensures { λ _. ⌜ now (rows .exit) ≡ builtFrom fiveWords 32 (routeAt (now (list .entry))) k 0 (now (rows .entry)) ⌝ }
 {
     let mut i: u32 = 0;
     while i < k {
@@ -109,7 +105,7 @@ fn fill(list: &[u32], rows: &mut [u32], k: u32)
 
 // Builds a table from a list; the count is its routes. Refuses as the check of the list does, then 9, there are not as many rows.
 pub fn build(list: &[u32], rows: &mut [u32]) -> Answer
-    ensures { λ r. ⌜ outcome r (now (rows .exit)) ≡ buildInto 32 (now (list .entry)) (now (rows .entry)) ⌝ }
+    ensures { λ r. ⌜ outcome r (now (rows .exit)) ≡ buildInto fiveWords 32 (now (list .entry)) (now (rows .entry)) ⌝ }
 {
     let checked = routes::check_list(list);
     if checked.number != 0 {

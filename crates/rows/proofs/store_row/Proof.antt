@@ -1,5 +1,7 @@
-use lib.ListN.{length-set}
+use borrow.Author.Tests.{lt-ltb, le-ltb}
 use native.Mathlib.Omega.{arith}
+use lib.ListN.{length-set}
+use Rattle.cells.specs.Words.{rowCount, storeRow}
 use borrow.Author.Needs.{needs}
 use Rattle.rows.proofs.store_row.Statement.{statement}
 use Rattle.rows.proofs.store_row.Tie as tie
@@ -53,7 +55,12 @@ same-length : tie.Need-same-length
 same-length c = search needs
 
 returns : tie.Need-returns
-returns c = search needs
+unfolding storeRow
+returns c = let d = c .before .args in rw (lt-ltb (d .r) (rowCount (d .rows .now)) (omega arith))
+
+returns-2 : tie.Need-returns-2
+unfolding storeRow
+returns-2 c = let d = c .before .args in rw (le-ltb (d .r) (rowCount (d .rows .now)) (omega arith))
 
 pub store-row-spec : {M : Type 1} → statement M
 store-row-spec =
@@ -75,4 +82,5 @@ store-row-spec =
     mul-rows-5
     slice-write-rows-5
     same-length
-    returns)
+    returns
+    returns-2)

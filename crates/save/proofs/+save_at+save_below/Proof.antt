@@ -54,9 +54,7 @@ save-at-row-at-requires : (t : ℕ) → save-at-lts.Need-row-at-requires (
   sink-route-reads.Asked,
   sink-route-reads.Learnt,
 ) (save-at-at t) save-at.Post
-save-at-row-at-requires t c κs =
-    let a = c .before .before in
-    ready-row (rowAt (a .args .rows .now)) (rowCount (a .args .rows .now)) (a .args .left) (a .args .row) (a .pre .1 .0)
+save-at-row-at-requires t c κs = search needs
 
 save-at-route-of-requires : (t : ℕ) → save-at-lts.Need-route-of-requires (
   row-at-reads.Asked,

@@ -14,7 +14,7 @@ use Rattle.table.proofs.found_port.Reads as found-port-reads
 use Rattle.table.proofs.is_wrong.Reads as is-wrong-reads
 use Rattle.table.proofs.lost_at.Reads as lost-at-reads
 use Rattle.rows.proofs.capacity_of.Reads as capacity-of-reads
-use Rattle.rows.proofs.row_at.Reads as row-at-reads
+use Rattle.rows.proofs.whole_row.Reads as whole-row-reads
 
 abbrev Inv-loop : tie.InvT-loop
 Inv-loop rows n address left₀ row₀ best₀ reads₀ left row best reads = Searching 32 (capacity rows) (rowAt rows) n address left row best reads
@@ -47,8 +47,8 @@ loop-holds : tie.Need-loop-holds Inv-loop μ-loop
 loop-holds c = lookup-starts 32 _ _ _ _ (omega arith) (c .if2 .left)
 
 -- src/lib.rt:110:13
-row-at-requires : tie.Need-row-at-requires Inv-loop μ-loop
-row-at-requires c κs = omega arith
+whole-row-requires : tie.Need-whole-row-requires Inv-loop μ-loop
+whole-row-requires c κs = omega arith
 
 -- src/lib.rt:111:21
 sub-depth : tie.Need-sub-depth Inv-loop μ-loop
@@ -71,7 +71,7 @@ returns-3 : tie.Need-returns-3 Inv-loop μ-loop
 returns-3 c =
     let u = c .before .before in
     c .lost-at2 .ensures
-    ∙ to-wrong 32 _ _ _ _ _ _ _ _ (u .before .before .loop .inv .rest) _ (u .before .row-at .ensures) _ (u .is-wrong .ensures) (c .before .if3 .taken)
+    ∙ to-wrong 32 _ _ _ _ _ _ _ _ (u .before .before .loop .inv .rest) _ (u .before .whole-row .ensures) _ (u .is-wrong .ensures) (c .before .if3 .taken)
 
 -- src/lib.rt:116:12
 ends-requires : tie.Need-ends-requires Inv-loop μ-loop
@@ -87,7 +87,7 @@ returns-4 c =
     let v = c .before .before in
     let u = v .before .before in
     c .found-port2 .ensures
-    ∙ to-ends 32 _ _ _ _ _ _ _ _ (u .before .before .loop .inv .rest) _ (u .before .row-at .ensures) _ (u .is-wrong .ensures) (v .before .if3 .left) _ (v .ends .ensures) (c .before .if4 .taken)
+    ∙ to-ends 32 _ _ _ _ _ _ _ _ (u .before .before .loop .inv .rest) _ (u .before .whole-row .ensures) _ (u .is-wrong .ensures) (v .before .if3 .left) _ (v .ends .ensures) (c .before .if4 .taken)
 
 -- src/lib.rt:120:9
 better-requires : tie.Need-better-requires Inv-loop μ-loop
@@ -104,7 +104,7 @@ returns-5 c =
     let v = p .before .before .before in
     let u = v .before .before in
     c .found-port3 .ensures
-    ∙ to-last 32 _ _ _ _ _ _ _ _ (u .before .before .loop .inv .rest) _ (u .before .row-at .ensures) _ (u .is-wrong .ensures) (v .before .if3 .left) _ (v .ends .ensures) (p .before .before .if4 .left) _ (p .before .better .ensures) (p .if5 .taken)
+    ∙ to-last 32 _ _ _ _ _ _ _ _ (u .before .before .loop .inv .rest) _ (u .before .whole-row .ensures) _ (u .is-wrong .ensures) (v .before .if3 .left) _ (v .ends .ensures) (p .before .before .if4 .left) _ (p .before .better .ensures) (p .if5 .taken)
 
 -- src/lib.rt:124:9
 sub-left : tie.Need-sub-left Inv-loop μ-loop
@@ -125,7 +125,7 @@ returns-6 c =
     let v = p .before .before .before in
     let u = v .before .before in
     c .found-port4 .ensures
-    ∙ to-stop 32 _ _ _ _ _ _ _ _ (u .before .before .loop .inv .rest) _ (u .before .row-at .ensures) _ (u .is-wrong .ensures) (v .before .if3 .left) _ (v .ends .ensures) (p .before .before .if4 .left) _ (p .before .better .ensures) (omega arith) _ (c .before .before .child-on .ensures) (c .before .if6 .taken)
+    ∙ to-stop 32 _ _ _ _ _ _ _ _ (u .before .before .loop .inv .rest) _ (u .before .whole-row .ensures) _ (u .is-wrong .ensures) (v .before .if3 .left) _ (v .ends .ensures) (p .before .before .if4 .left) _ (p .before .better .ensures) (omega arith) _ (c .before .before .child-on .ensures) (c .before .if6 .taken)
 
 -- src/lib.rt:109:5
 loop-less : tie.Need-loop-less Inv-loop μ-loop
@@ -139,10 +139,10 @@ loop-again c =
     let u = v .before .before in
     let i = u .before .before .loop .inv in
     record {
-      held = next-lt 32 _ _ _ _ _ _ _ _ (i .rest) _ (u .before .row-at .ensures) _ (u .is-wrong .ensures) (v .before .if3 .left) _ (v .ends .ensures) (p .before .before .if4 .left) _ (p .before .better .ensures) (omega arith) _ (c .before .child-on .ensures);
+      held = next-lt 32 _ _ _ _ _ _ _ _ (i .rest) _ (u .before .whole-row .ensures) _ (u .is-wrong .ensures) (v .before .if3 .left) _ (v .ends .ensures) (p .before .before .if4 .left) _ (p .before .better .ensures) (omega arith) _ (c .before .child-on .ensures);
       few = i .few;
       bits = omega arith;
-      rest = to-next 32 _ _ _ _ _ _ _ _ (i .rest) _ (u .before .row-at .ensures) _ (u .is-wrong .ensures) (v .before .if3 .left) _ (v .ends .ensures) (p .before .before .if4 .left) _ (p .before .better .ensures) (omega arith) _ (c .before .child-on .ensures) (c .if6 .left);
+      rest = to-next 32 _ _ _ _ _ _ _ _ (i .rest) _ (u .before .whole-row .ensures) _ (u .is-wrong .ensures) (v .before .if3 .left) _ (v .ends .ensures) (p .before .before .if4 .left) _ (p .before .better .ensures) (omega arith) _ (c .before .child-on .ensures) (c .if6 .left);
     }
 
 pub lookup-spec : {M : Type 1} → statement M
@@ -157,7 +157,7 @@ lookup-spec =
     found-port-requires
     returns-2
     loop-holds
-    row-at-requires
+    whole-row-requires
     sub-depth
     add-reads
     is-wrong-requires

@@ -1,6 +1,6 @@
-use mathlib.Core.Path.{sym, _∙_}
 use Rattle.routes.specs.Routes.{route}
-use Rattle.update.proofs.Answers.{good-tabled, announce-fault, announce-good, announce-wrong}
+use Rattle.update.proofs.Answers.{announce-fault, announce-good, announce-wrong}
+use Rattle.cells.specs.Words.{fiveWords}
 use borrow.Author.Needs.{needs}
 use Rattle.update.proofs.announce.Statement.{statement}
 use Rattle.update.proofs.announce.Tie as tie
@@ -15,14 +15,13 @@ returns : tie.Need-returns
 returns c =
     let d = c .before .before .before .before .args in
     let f = c .before .before .route-fault in
-    announce-fault (d .rows .now) (d .n) (route (d .value) (d .len) (d .port)) (f .result) (f .ensures) (c .keeping .result) (c .before .if1 .taken) (c .keeping .ensures)
+    announce-fault fiveWords 32 (d .rows .now) (d .n) (route (d .value) (d .len) (d .port)) (f .result) (f .ensures) (c .keeping .result) (c .before .if1 .taken) (c .keeping .ensures)
 
 is-good-requires : tie.Need-is-good-requires
 is-good-requires c κs = search needs
 
 announce-in-requires : tie.Need-announce-in-requires
-announce-in-requires c κs =
-    good-tabled (c .before .before .before .before .before .before .before .args .rows .now) (c .before .before .before .before .before .before .before .args .n) (sym (c .before .before .is-good .ensures) ∙ c .before .if2 .taken)
+announce-in-requires c κs = search needs
 
 same-length : tie.Need-same-length
 same-length c = search needs
@@ -32,7 +31,7 @@ returns-2 c =
     let d = c .before .before .before .before .before .before .before .before .before .before .args in
     let f = c .before .before .before .before .before .before .before .before .route-fault in
     let g = c .before .before .before .before .before .is-good in
-    announce-good (d .rows .now) (d .n) (route (d .value) (d .len) (d .port)) (f .result) (f .ensures) (c .before .before .before .before .before .before .before .if1 .left) (g .result) (g .ensures) (c .before .before .before .before .if2 .taken) _ (c .before .before .announce-in .ensures)
+    announce-good fiveWords 32 (d .rows .now) (d .n) (route (d .value) (d .len) (d .port)) (f .result) (f .ensures) (c .before .before .before .before .before .before .before .if1 .left) (g .result) (g .ensures) (c .before .before .before .before .if2 .taken) _ (c .before .before .announce-in .ensures)
 
 keeping-requires-2 : tie.Need-keeping-requires-2
 keeping-requires-2 c κs = search needs
@@ -45,7 +44,7 @@ returns-3 c =
     let d = c .before .before .before .before .before .before .before .args in
     let f = c .before .before .before .before .before .route-fault in
     let g = c .before .before .is-good in
-    announce-wrong (d .rows .now) (d .n) (route (d .value) (d .len) (d .port)) (f .result) (f .ensures) (c .before .before .before .before .if1 .left) (g .result) (g .ensures) (c .before .if2 .left) (c .keeping2 .result) (c .keeping2 .ensures)
+    announce-wrong fiveWords 32 (d .rows .now) (d .n) (route (d .value) (d .len) (d .port)) (f .result) (f .ensures) (c .before .before .before .before .if1 .left) (g .result) (g .ensures) (c .before .if2 .left) (c .keeping2 .result) (c .keeping2 .ensures)
 
 pub announce-spec : {M : Type 1} → statement M
 announce-spec =

@@ -1,7 +1,6 @@
-use mathlib.Core.Logic.{inl, inr}
-use mathlib.Core.Path.{sym, _∙_}
 use native.Mathlib.Omega.{arith}
 use Rattle.update.proofs.Answers.{announce-held, announce-new, announce-full}
+use Rattle.cells.specs.Words.{fiveWords}
 use borrow.Author.Needs.{needs}
 use Rattle.update.proofs.announce_in.Statement.{statement}
 use Rattle.update.proofs.announce_in.Tie as tie
@@ -10,8 +9,7 @@ is-held-requires : tie.Need-is-held-requires
 is-held-requires c κs = search needs
 
 put-route-requires : tie.Need-put-route-requires
-put-route-requires c κs =
-    (c .before .before .before .before .before .pre, inr (sym (c .before .before .is-held .ensures) ∙ c .before .if1 .taken))
+put-route-requires c κs = search needs
 
 accepted-requires : tie.Need-accepted-requires
 accepted-requires c κs = search needs
@@ -23,14 +21,13 @@ returns : tie.Need-returns
 returns c =
     let d = c .before .before .before .before .before .before .before .before .before .args in
     let a = c .before .before .before .before .before .before .is-held in
-    announce-held (d .rows .now) (d .n) (d .q) (a .result) (a .ensures) (c .accepted .result) _ (c .before .before .before .before .before .if1 .taken) (c .accepted .ensures) (c .before .before .before .put-route .ensures)
+    announce-held fiveWords 32 (d .rows .now) (d .n) (d .q) (a .result) (a .ensures) (c .accepted .result) _ (c .before .before .before .before .before .if1 .taken) (c .accepted .ensures) (c .before .before .before .put-route .ensures)
 
 capacity-of-requires : tie.Need-capacity-of-requires
 capacity-of-requires c κs = search needs
 
 put-route-requires-2 : tie.Need-put-route-requires-2
-put-route-requires-2 c κs =
-    (c .before .before .before .before .before .before .before .before .pre, inl (omega (arith, c .before .if2 .taken, c .before .before .capacity-of .ensures)))
+put-route-requires-2 c κs = search needs
 
 add-accepted : tie.Need-add-accepted
 add-accepted c = search needs
@@ -46,7 +43,7 @@ returns-2 c =
     let d = c .before .before .before .before .before .before .before .before .before .before .before .before .args in
     let a = c .before .before .before .before .before .before .before .before .before .is-held in
     let k = c .before .before .before .before .before .before .capacity-of in
-    announce-new (d .rows .now) (d .n) (d .q) (a .result) (a .ensures) (c .accepted2 .result) _ (c .before .before .before .before .before .before .before .before .if1 .left) (k .result) (k .ensures) (c .before .before .before .before .before .if2 .taken) (c .accepted2 .ensures) (c .before .before .before .put-route2 .ensures)
+    announce-new fiveWords 32 (d .rows .now) (d .n) (d .q) (a .result) (a .ensures) (c .accepted2 .result) _ (c .before .before .before .before .before .before .before .before .if1 .left) (k .result) (k .ensures) (c .before .before .before .before .before .if2 .taken) (c .accepted2 .ensures) (c .before .before .before .put-route2 .ensures)
 
 keeping-requires : tie.Need-keeping-requires
 keeping-requires c κs = search needs
@@ -59,7 +56,7 @@ returns-3 c =
     let d = c .before .before .before .before .before .before .before .before .args in
     let a = c .before .before .before .before .before .is-held in
     let k = c .before .before .capacity-of in
-    announce-full (d .rows .now) (d .n) (d .q) (a .result) (a .ensures) (c .keeping .result) (c .before .before .before .before .if1 .left) (k .result) (k .ensures) (c .before .if2 .left) (c .keeping .ensures)
+    announce-full fiveWords 32 (d .rows .now) (d .n) (d .q) (a .result) (a .ensures) (c .keeping .result) (c .before .before .before .before .if1 .left) (k .result) (k .ensures) (c .before .if2 .left) (c .keeping .ensures)
 
 pub announce-in-spec : {M : Type 1} → statement M
 announce-in-spec =

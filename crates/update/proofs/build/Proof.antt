@@ -1,5 +1,6 @@
 use native.Mathlib.Omega.{arith}
-use Rattle.update.proofs.Filling.{build-fault, build-few, build-full, build-fills, build-done}
+use Rattle.update.proofs.Filling.{build-fault, build-few, build-full, build-done}
+use Rattle.cells.specs.Words.{fiveWords}
 use borrow.Author.Needs.{needs}
 use Rattle.update.proofs.build.Statement.{statement}
 use Rattle.update.proofs.build.Tie as tie
@@ -11,13 +12,13 @@ returns : tie.Need-returns
 returns c =
     let d = c .before .before .before .before .before .args in
     let k = c .before .before .check-list in
-    build-fault (d .list .now) (d .rows .now) (k .result) (k .ensures) (c .if1 .taken)
+    build-fault fiveWords 32 (d .list .now) (d .rows .now) (k .result) (k .ensures) (c .if1 .taken)
 
 cast-n : tie.Need-cast-n
 cast-n c =
     let d = c .before .before .before .before .before .args in
     let k = c .before .before .check-list in
-    omega (arith, build-few (d .list .now) (d .rows .now) (k .result) (k .ensures) (c .if1 .left))
+    omega (arith, build-few fiveWords 32 (d .list .now) (d .rows .now) (k .result) (k .ensures) (c .if1 .left))
 
 capacity-of-requires : tie.Need-capacity-of-requires
 capacity-of-requires c κs = search needs
@@ -33,15 +34,10 @@ returns-2 c =
     let d = c .before .before .before .before .before .before .before .before .before .args in
     let k = c .before .before .before .before .before .before .check-list in
     let r = c .before .before .capacity-of in
-    build-full (d .list .now) (d .rows .now) (k .result) (k .ensures) (c .before .before .before .before .if1 .left) (r .result) (r .ensures) (c .before .if2 .taken) (c .refused .result) (c .refused .ensures)
+    build-full fiveWords 32 (d .list .now) (d .rows .now) (k .result) (k .ensures) (c .before .before .before .before .if1 .left) (r .result) (r .ensures) (c .before .if2 .taken) (c .refused .result) (c .refused .ensures)
 
 fill-requires : tie.Need-fill-requires
-fill-requires c κs =
-    let d = c .before .before .before .before .before .before .before .before .before .args in
-    let k = c .before .before .before .before .before .before .check-list in
-    let r = c .before .before .capacity-of in
-    let s = c .before .before .before .before .before .before .before .before .shared-slice-known .given in
-    build-fills (d .list .now) (d .rows .now) (k .result) (k .ensures) (c .before .before .before .before .if1 .left) (r .result) (r .ensures) (c .before .if2 .left) (λ i. omega (arith, s i))
+fill-requires c κs = search needs
 
 accepted-requires : tie.Need-accepted-requires
 accepted-requires c κs = search needs
@@ -54,7 +50,7 @@ returns-3 c =
     let d = c .before .before .before .before .before .before .before .before .before .before .before .before .before .args in
     let k = c .before .before .before .before .before .before .before .before .before .before .check-list in
     let r = c .before .before .before .before .before .before .capacity-of in
-    build-done (d .list .now) (d .rows .now) (k .result) (k .ensures) (c .before .before .before .before .before .before .before .before .if1 .left) (r .result) (r .ensures) (c .before .before .before .before .before .if2 .left) (c .accepted .result) _ (c .accepted .ensures) (c .before .before .before .fill .ensures)
+    build-done fiveWords 32 (d .list .now) (d .rows .now) (k .result) (k .ensures) (c .before .before .before .before .before .before .before .before .if1 .left) (r .result) (r .ensures) (c .before .before .before .before .before .if2 .left) (c .accepted .result) _ (c .accepted .ensures) (c .before .before .before .fill .ensures)
 
 pub build-spec : {M : Type 1} → statement M
 build-spec =

@@ -1,5 +1,5 @@
-use mathlib.Core.Path.{sym, _∙_}
-use Rattle.update.proofs.Answers.{good-tabled, withdraw-fault, withdraw-good, withdraw-wrong}
+use Rattle.update.proofs.Answers.{withdraw-fault, withdraw-good, withdraw-wrong}
+use Rattle.cells.specs.Words.{fiveWords}
 use borrow.Author.Needs.{needs}
 use Rattle.update.proofs.withdraw.Statement.{statement}
 use Rattle.update.proofs.withdraw.Tie as tie
@@ -14,14 +14,13 @@ returns : tie.Need-returns
 returns c =
     let d = c .before .before .before .before .args in
     let f = c .before .before .prefix-fault in
-    withdraw-fault (d .rows .now) (d .n) (d .value) (d .len) (f .result) (f .ensures) (c .keeping .result) (c .before .if1 .taken) (c .keeping .ensures)
+    withdraw-fault fiveWords 32 (d .rows .now) (d .n) (d .value) (d .len) (f .result) (f .ensures) (c .keeping .result) (c .before .if1 .taken) (c .keeping .ensures)
 
 is-good-requires : tie.Need-is-good-requires
 is-good-requires c κs = search needs
 
 withdraw-in-requires : tie.Need-withdraw-in-requires
-withdraw-in-requires c κs =
-    good-tabled (c .before .before .before .before .before .before .before .args .rows .now) (c .before .before .before .before .before .before .before .args .n) (sym (c .before .before .is-good .ensures) ∙ c .before .if2 .taken)
+withdraw-in-requires c κs = search needs
 
 same-length : tie.Need-same-length
 same-length c = search needs
@@ -31,7 +30,7 @@ returns-2 c =
     let d = c .before .before .before .before .before .before .before .before .before .before .args in
     let f = c .before .before .before .before .before .before .before .before .prefix-fault in
     let g = c .before .before .before .before .before .is-good in
-    withdraw-good (d .rows .now) (d .n) (d .value) (d .len) (f .result) (f .ensures) (c .before .before .before .before .before .before .before .if1 .left) (g .result) (g .ensures) (c .before .before .before .before .if2 .taken) _ (c .before .before .withdraw-in .ensures)
+    withdraw-good fiveWords 32 (d .rows .now) (d .n) (d .value) (d .len) (f .result) (f .ensures) (c .before .before .before .before .before .before .before .if1 .left) (g .result) (g .ensures) (c .before .before .before .before .if2 .taken) _ (c .before .before .withdraw-in .ensures)
 
 keeping-requires-2 : tie.Need-keeping-requires-2
 keeping-requires-2 c κs = search needs
@@ -44,7 +43,7 @@ returns-3 c =
     let d = c .before .before .before .before .before .before .before .args in
     let f = c .before .before .before .before .before .prefix-fault in
     let g = c .before .before .is-good in
-    withdraw-wrong (d .rows .now) (d .n) (d .value) (d .len) (f .result) (f .ensures) (c .before .before .before .before .if1 .left) (g .result) (g .ensures) (c .before .if2 .left) (c .keeping2 .result) (c .keeping2 .ensures)
+    withdraw-wrong fiveWords 32 (d .rows .now) (d .n) (d .value) (d .len) (f .result) (f .ensures) (c .before .before .before .before .if1 .left) (g .result) (g .ensures) (c .before .if2 .left) (c .keeping2 .result) (c .keeping2 .ensures)
 
 pub withdraw-spec : {M : Type 1} → statement M
 withdraw-spec =

@@ -1,5 +1,6 @@
 use native.Mathlib.Omega.{arith}
-use Rattle.update.proofs.Answers.{held-walks, withdraw-held, withdraw-missing}
+use Rattle.update.proofs.Answers.{held-some, withdraw-held, withdraw-missing}
+use Rattle.cells.specs.Words.{fiveWords}
 use borrow.Author.Needs.{needs}
 use Rattle.update.proofs.withdraw_in.Statement.{statement}
 use Rattle.update.proofs.withdraw_in.Tie as tie
@@ -8,14 +9,12 @@ is-held-requires : tie.Need-is-held-requires
 is-held-requires c κs = search needs
 
 take-route-requires : tie.Need-take-route-requires
-take-route-requires c κs =
-    let d = c .before .before .before .before .before .args in
-    held-walks (d .rows .now) (d .n) (d .q) (c .before .before .is-held .result) (c .before .before .is-held .ensures) (c .before .before .before .before .before .pre) (c .before .if1 .taken)
+take-route-requires c κs = search needs
 
 sub-accepted : tie.Need-sub-accepted
 sub-accepted c =
     let d = c .before .before .before .before .before .before .before .before .args in
-    held-walks (d .rows .now) (d .n) (d .q) (c .before .before .before .before .before .is-held .result) (c .before .before .before .before .before .is-held .ensures) (c .before .before .before .before .before .before .before .before .pre) (c .before .before .before .before .if1 .taken) .some
+    held-some fiveWords 32 (d .rows .now) (d .n) (d .q) (c .before .before .before .before .before .is-held .result) (c .before .before .before .before .before .is-held .ensures) (c .before .before .before .before .if1 .taken)
 
 accepted-requires : tie.Need-accepted-requires
 accepted-requires c κs = search needs
@@ -27,7 +26,7 @@ returns : tie.Need-returns
 returns c =
     let d = c .before .before .before .before .before .before .before .before .before .args in
     let a = c .before .before .before .before .before .before .is-held in
-    withdraw-held (d .rows .now) (d .n) (d .q) (a .result) (a .ensures) (c .accepted .result) _ (c .before .before .before .before .before .if1 .taken) (c .accepted .ensures) (c .before .before .before .take-route .ensures)
+    withdraw-held fiveWords 32 (d .rows .now) (d .n) (d .q) (a .result) (a .ensures) (c .accepted .result) _ (c .before .before .before .before .before .if1 .taken) (c .accepted .ensures) (c .before .before .before .take-route .ensures)
 
 keeping-requires : tie.Need-keeping-requires
 keeping-requires c κs = search needs
@@ -39,7 +38,7 @@ returns-2 : tie.Need-returns-2
 returns-2 c =
     let d = c .before .before .before .before .before .args in
     let a = c .before .before .is-held in
-    withdraw-missing (d .rows .now) (d .n) (d .q) (a .result) (a .ensures) (c .keeping .result) (c .before .if1 .left) (c .keeping .ensures)
+    withdraw-missing fiveWords 32 (d .rows .now) (d .n) (d .q) (a .result) (a .ensures) (c .keeping .result) (c .before .if1 .left) (c .keeping .ensures)
 
 pub withdraw-in-spec : {M : Type 1} → statement M
 withdraw-in-spec =

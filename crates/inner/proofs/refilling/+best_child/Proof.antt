@@ -1,10 +1,8 @@
-use mathlib.Core.Bool.{true, false}
 use borrow.Author.Needs.{needs}
 use native.Mathlib.Omega.{arith}
 use mathlib.Core.Path.{refl}
-use Rattle.cells.specs.Words.{rowAt}
+use Rattle.cells.specs.Words.{fiveWords}
 use Rattle.cells.specs.Withdraw.{noRoute}
-use Rattle.inner.proofs.Finding.{kid-lt}
 use Rattle.inner.proofs.Refilled.{best-none, best-last, best-priority, best-ordinary}
 use Prim.Native.Nat.{ℕ, _<_}
 use borrow.Fn.Kinds.{In}
@@ -20,7 +18,7 @@ use Rattle.inner.proofs.refilling.+best_child.{statement}
 use Rattle.inner.proofs.refilling.+best_child.Tie.{close}
 
 abbrev μ-best-child : Measures 1 best-child-kinds.ps ℕ
-μ-best-child κs a = a .1 .1 .0
+μ-best-child κs a = a .1 .0
 
 abbrev best-child-at : ℕ → In 1 best-child-kinds.ps
 best-child-at t =
@@ -44,7 +42,7 @@ best-child-returns : (t : ℕ) → best-child-lts.Need-returns (
 ) (best-child-at t) best-child.Post
 best-child-returns t c =
     let d = c .before .before in
-    best-none 32 (rowAt (d .args .rows .now)) (d .args .left) (d .args .child) (rowAt (d .args .rows .now) (d .args .child)) refl noRoute (c .if1 .taken)
+    best-none 32 (fiveWords .get (d .args .rows .now)) (d .args .left) (d .args .child) (fiveWords .get (d .args .rows .now) (d .args .child)) refl noRoute (c .if1 .taken)
 
 best-child-row-at-requires : (t : ℕ) → best-child-lts.Need-row-at-requires (
   row-at-reads.Asked,
@@ -89,7 +87,7 @@ best-child-returns-2 : (t : ℕ) → best-child-lts.Need-returns-2 (
 best-child-returns-2 t c =
     let x = c .before .before in
     let d = x .before .before .before in
-    best-last 32 (rowAt (d .args .rows .now)) (d .args .left) (d .args .child) (x .row-at .result) (x .row-at .ensures) (c .route-of .result) (x .before .if1 .left) (c .before .if2 .taken) (c .route-of .ensures)
+    best-last 32 (fiveWords .get (d .args .rows .now)) (d .args .left) (d .args .child) (x .row-at .result) (x .row-at .ensures) (c .route-of .result) (x .before .if1 .left) (c .before .if2 .taken) (c .route-of .ensures)
 
 best-child-sub-if3 : (t : ℕ) → best-child-lts.Need-sub-if3 (
   row-at-reads.Asked,
@@ -134,7 +132,7 @@ best-child-returns-3 : (t : ℕ) → best-child-lts.Need-returns-3 (
 best-child-returns-3 t c =
     let x = c .before .before .before .before in
     let d = x .before .before .before in
-    best-priority 32 (rowAt (d .args .rows .now)) (d .args .left) (d .args .child) (x .row-at .result) (x .row-at .ensures) (c .route-of2 .result) (x .before .if1 .left) (c .before .before .before .if2 .left) (c .before .if3 .taken) (c .route-of2 .ensures)
+    best-priority 32 (fiveWords .get (d .args .rows .now)) (d .args .left) (d .args .child) (x .row-at .result) (x .row-at .ensures) (c .route-of2 .result) (x .before .if1 .left) (c .before .before .before .if2 .left) (c .before .if3 .taken) (c .route-of2 .ensures)
 
 best-child-sub-best-child : (t : ℕ) → best-child-lts.Need-sub-best-child (
   row-at-reads.Asked,
@@ -162,17 +160,7 @@ best-child-best-child-requires : (t : ℕ) → best-child-lts.Need-best-child-re
   or-route-reads.Asked,
   or-route-reads.Learnt,
 ) (best-child-at t) best-child.Post
-best-child-best-child-requires t c κs =
-    let x = c .before .before .before in
-    let d = x .before .before .before in
-    let p = d .pre .1 in (
-      search needs,
-      (
-        p .0,
-        kid-lt (rowAt (d .args .rows .now)) (d .args .n) (d .args .child) (x .row-at .result) false (x .row-at .result .left) (p .0 .closed) (p .1) (x .row-at .ensures) refl,
-        search needs,
-      ),
-    )
+best-child-best-child-requires t c κs = (search needs, search needs)
 
 best-child-sub-best-child-2 : (t : ℕ) → best-child-lts.Need-sub-best-child-2 (
   row-at-reads.Asked,
@@ -200,17 +188,7 @@ best-child-best-child-requires-2 : (t : ℕ) → best-child-lts.Need-best-child-
   or-route-reads.Asked,
   or-route-reads.Learnt,
 ) (best-child-at t) best-child.Post
-best-child-best-child-requires-2 t c κs =
-    let x = c .before .before .before .before in
-    let d = x .before .before .before in
-    let p = d .pre .1 in (
-      search needs,
-      (
-        p .0,
-        kid-lt (rowAt (d .args .rows .now)) (d .args .n) (d .args .child) (x .row-at .result) true (x .row-at .result .right) (p .0 .closed) (p .1) (x .row-at .ensures) refl,
-        search needs,
-      ),
-    )
+best-child-best-child-requires-2 t c κs = (search needs, search needs)
 
 best-child-first-route-requires : (t : ℕ) → best-child-lts.Need-first-route-requires (
   row-at-reads.Asked,
@@ -271,7 +249,7 @@ best-child-returns-4 t c =
     let a = b .before in
     let x = a .before .before .before .before in
     let d = x .before .before .before in
-    best-ordinary 32 (rowAt (d .args .rows .now)) (d .args .left) (d .args .child) (x .row-at .result) (x .row-at .ensures) (c .or-route .result) (x .before .if1 .left) (a .before .before .before .if2 .left) (a .before .if3 .left)
+    best-ordinary 32 (fiveWords .get (d .args .rows .now)) (d .args .left) (d .args .child) (x .row-at .result) (x .row-at .ensures) (c .or-route .result) (x .before .if1 .left) (a .before .before .before .if2 .left) (a .before .if3 .left)
     (a .best-child .result) (b .best-child2 .result) (c .before .before .first-route .result) (c .before .route-of3 .result)
     (a .best-child .ensures) (b .best-child2 .ensures) (c .before .before .first-route .ensures) (c .before .route-of3 .ensures) (c .or-route .ensures)
 

@@ -1,11 +1,8 @@
 use borrow.Author.Needs.{needs}
-use native.Mathlib.Omega.{arith}
-use mathlib.Core.Path.{refl, _∙_}
-use mathlib.Core.Bool.{true, false}
-use Rattle.cells.specs.Words.{rowAt}
-use Rattle.inner.proofs.Finding.{kid-lt}
-use Rattle.inner.proofs.Refilled.{refill-child, refill-walks, cut-none, cut-last, cut-on}
-use Prim.Native.Nat.{ℕ, _<_, _-_}
+use mathlib.Core.Path.{_∙_}
+use Rattle.cells.specs.Words.{fiveWords}
+use Rattle.inner.proofs.Refilled.{cut-none, cut-last, cut-on}
+use Prim.Native.Nat.{ℕ, _<_}
 use borrow.Fn.Kinds.{In}
 use borrow.Fn.PlainCycle.{Measures, is, falls, and}
 use Rattle.inner.proofs.refilling.cut_from.Reads as cut-from
@@ -21,7 +18,7 @@ use Rattle.inner.proofs.refilling.+cut_from.{statement}
 use Rattle.inner.proofs.refilling.+cut_from.Tie.{close}
 
 abbrev μ-cut-from : Measures 1 cut-from-kinds.ps ℕ
-μ-cut-from κs a = a .1 .1 .0
+μ-cut-from κs a = a .1 .0
 
 abbrev cut-from-at : ℕ → In 1 cut-from-kinds.ps
 cut-from-at t = and 1 cut-from-kinds.ps (is 1 cut-from-kinds.ps μ-cut-from t) cut-from.Pre
@@ -48,7 +45,7 @@ cut-from-returns : (t : ℕ) → cut-from-lts.Need-returns (
 ) (cut-from-at t) cut-from.Post
 cut-from-returns t c =
     let d = c .before .before .args in
-    cut-none 32 (d .rows .now) (d .left) (d .row) (d .q) (c .if1 .taken)
+    cut-none fiveWords 32 (d .rows .now) (d .left) (d .row) (d .q) (c .if1 .taken)
 
 cut-from-row-at-requires : (t : ℕ) → cut-from-lts.Need-row-at-requires (
   row-at-reads.Asked,
@@ -102,16 +99,7 @@ cut-from-refill-for-requires : (t : ℕ) → cut-from-lts.Need-refill-for-requir
   cut-from-below t,
   cut-from.Post,
 ) (cut-from-at t) cut-from.Post
-cut-from-refill-for-requires t c κs =
-    let x = c .before in
-    let s = c .before .before .before .before .before in
-    let d = s .args in
-    let p = s .pre .1 in (
-      p .0,
-      search needs,
-      kid-lt (rowAt (d .rows .now)) (d .n) (d .row) (x .row-at .result) false (x .row-at .result .left) (p .0 .closed) (p .1) (x .row-at .ensures) refl,
-      kid-lt (rowAt (d .rows .now)) (d .n) (d .row) (x .row-at .result) true (x .row-at .result .right) (p .0 .closed) (p .1) (x .row-at .ensures) refl,
-    )
+cut-from-refill-for-requires t c κs = search needs
 
 cut-from-with-route-requires : (t : ℕ) → cut-from-lts.Need-with-route-requires (
   row-at-reads.Asked,
@@ -147,13 +135,7 @@ cut-from-row-at-requires-2 : (t : ℕ) → cut-from-lts.Need-row-at-requires-2 (
   cut-from-below t,
   cut-from.Post,
 ) (cut-from-at t) cut-from.Post
-cut-from-row-at-requires-2 t c κs =
-    let f = c .before .before .before in
-    let x = c .before .before .before .before .before in
-    let s = c .before .before .before .before .before .before .before .before .before in
-    let d = s .args in
-    let p = s .pre .1 in
-    omega (arith, refill-child 32 (d .rows .now) (d .n) (d .row) (d .left - 1) (d .q) (x .row-at .result) (x .row-at .ensures) (f .refill-for .result) (f .refill-for .ensures) (p .0) (p .1), p .0 .lies)
+cut-from-row-at-requires-2 t c κs = search needs
 
 cut-from-is-last-requires : (t : ℕ) → cut-from-lts.Need-is-last-requires (
   row-at-reads.Asked,
@@ -207,7 +189,7 @@ cut-from-store-row-requires : (t : ℕ) → cut-from-lts.Need-store-row-requires
   cut-from-below t,
   cut-from.Post,
 ) (cut-from-at t) cut-from.Post
-cut-from-store-row-requires t c κs = omega (arith, c .before .before .before .before .before .before .before .before .before .before .before .before .before .before .pre .1 .0 .lies, c .before .before .before .before .before .before .before .before .before .before .before .before .before .before .pre .1 .1)
+cut-from-store-row-requires t c κs = search needs
 
 cut-from-same-length : (t : ℕ) → cut-from-lts.Need-same-length (
   row-at-reads.Asked,
@@ -250,7 +232,7 @@ cut-from-returns-2 t c =
     let f = c .before .before .before .before .before .before .before .before .before .before .before in
     let x = c .before .before .before .before .before .before .before .before .before .before .before .before .before in
     let d = c .before .before .before .before .before .before .before .before .before .before .before .before .before .before .before .before .before .args in
-    cut-last 32 (d .rows .now) (d .left) (d .row) (d .q) (c .before .before .before .before .before .before .before .before .before .before .before .before .before .before .before .if1 .left) (x .row-at .result) (x .row-at .ensures) (f .refill-for .result) (f .refill-for .ensures)
+    cut-last fiveWords 32 (d .rows .now) (d .left) (d .row) (d .q) (c .before .before .before .before .before .before .before .before .before .before .before .before .before .before .before .if1 .left) (x .row-at .result) (x .row-at .ensures) (f .refill-for .result) (f .refill-for .ensures)
     (h .with-route .result) (h .with-route .ensures) (l .row-at2 .result) (l .row-at2 .ensures) (a .is-last .result) (a .is-last .ensures) (c .before .before .before .before .before .if2 .taken)
     (c .before .before .before .with-child .result) (c .before .before .before .with-child .ensures) _ (c .before .before .store-row .ensures)
 
@@ -270,7 +252,7 @@ cut-from-store-row-requires-2 : (t : ℕ) → cut-from-lts.Need-store-row-requir
   cut-from-below t,
   cut-from.Post,
 ) (cut-from-at t) cut-from.Post
-cut-from-store-row-requires-2 t c κs = omega (arith, c .before .before .before .before .before .before .before .before .before .before .before .before .before .pre .1 .0 .lies, c .before .before .before .before .before .before .before .before .before .before .before .before .before .pre .1 .1)
+cut-from-store-row-requires-2 t c κs = search needs
 
 cut-from-sub-cut-from : (t : ℕ) → cut-from-lts.Need-sub-cut-from (
   row-at-reads.Asked,
@@ -307,19 +289,10 @@ cut-from-cut-from-requires : (t : ℕ) → cut-from-lts.Need-cut-from-requires (
   cut-from.Post,
 ) (cut-from-at t) cut-from.Post
 cut-from-cut-from-requires t c κs =
-    let h = c .before .before .before .before .before .before .before .before .before in
-    let f = c .before .before .before .before .before .before .before .before .before .before .before in
-    let x = c .before .before .before .before .before .before .before .before .before .before .before .before .before in
     let s = c .before .before .before .before .before .before .before .before .before .before .before .before .before .before .before .before .before in
-    let d = s .args in
-    let p = s .pre .1 in (
-      search needs,
-      (
-        refill-walks (d .rows .now) (d .n) (d .row) (x .row-at .result) (x .row-at .ensures) (f .refill-for .result .holder) (h .with-route .result) (h .with-route .ensures) (p .0) (p .1) _ (c .before .before .before .store-row2 .ensures),
-        refill-child 32 (d .rows .now) (d .n) (d .row) (d .left - 1) (d .q) (x .row-at .result) (x .row-at .ensures) (f .refill-for .result) (f .refill-for .ensures) (p .0) (p .1),
-        search needs,
-      ),
-    )
+    let p = s .pre in
+    let ne = c .before .before .before .before .before .before .before .before .before .before .before .before .before .before .before .if1 .left in
+    (search needs, search needs)
 
 cut-from-same-length-2 : (t : ℕ) → cut-from-lts.Need-same-length-2 (
   row-at-reads.Asked,
@@ -362,7 +335,7 @@ cut-from-returns-3 t c =
     let f = c .before .before .before .before .before .before .before .before .before .before .before .before .before .before in
     let x = c .before .before .before .before .before .before .before .before .before .before .before .before .before .before .before .before in
     let d = c .before .before .before .before .before .before .before .before .before .before .before .before .before .before .before .before .before .before .before .before .args in
-    cut-on 32 (d .rows .now) (d .left) (d .row) (d .q) (c .before .before .before .before .before .before .before .before .before .before .before .before .before .before .before .before .before .before .if1 .left) (x .row-at .result) (x .row-at .ensures) (f .refill-for .result) (f .refill-for .ensures)
+    cut-on fiveWords 32 (d .rows .now) (d .left) (d .row) (d .q) (c .before .before .before .before .before .before .before .before .before .before .before .before .before .before .before .before .before .before .if1 .left) (x .row-at .result) (x .row-at .ensures) (f .refill-for .result) (f .refill-for .ensures)
     (h .with-route .result) (h .with-route .ensures) (l .row-at2 .result) (l .row-at2 .ensures) (a .is-last .result) (a .is-last .ensures) (c .before .before .before .before .before .before .before .before .if2 .left)
     _ (c .before .before .before .before .before .before .store-row2 .ensures) _ (c .before .before .cut-from .ensures)
 

@@ -2,7 +2,7 @@ use borrow.Author.Tests.{eq-eqb, ne-eqb}
 use mathlib.Core.Path.{sym, ap, ap₂, _∙_}
 use mathlib.Core.List.{List}
 use Prim.Native.Nat.{ℕ}
-use Rattle.cells.specs.Words.{storeRow}
+use Rattle.cells.specs.Words.{fiveWords}
 use Rattle.cells.specs.Withdraw.{closeGap}
 use Rattle.cells.specs.declared.Row.{Row}
 use borrow.Author.Needs.{needs}
@@ -22,7 +22,7 @@ returns : tie.Need-returns
 unfolding closeGap
 returns c =
     let d = c .before .before .before .before .before .before .before .args in
-    rw (eq-eqb (d .freed) (d .last) (c .before .before .before .before .before .if1 .taken)) (c .before .before .store-row .ensures ∙ ap (λ (x : Row). storeRow (d .rows .now) (d .last) x) (c .before .before .before .leaf-row .ensures))
+    rw (eq-eqb (d .freed) (d .last) (c .before .before .before .before .before .if1 .taken)) (c .before .before .store-row .ensures ∙ ap (λ (x : Row). fiveWords .put (d .rows .now) (d .last) x) (c .before .before .before .leaf-row .ensures))
 
 move-row-requires : tie.Need-move-row-requires
 move-row-requires c κs = search needs
@@ -41,7 +41,7 @@ unfolding closeGap
 returns-2 c =
     let d = c .before .before .before .before .before .before .before .before .before .before .before .args in
     rw (ne-eqb (d .freed) (d .last) (c .before .before .before .before .before .before .before .before .before .if1 .left))
-    (c .before .before .store-row2 .ensures ∙ ap₂ (λ (v : List ℕ) (x : Row). storeRow v (d .last) x) (c .before .before .before .before .before .before .before .move-row .ensures) (c .before .before .before .leaf-row2 .ensures))
+    (c .before .before .store-row2 .ensures ∙ ap₂ (λ (v : List ℕ) (x : Row). fiveWords .put v (d .last) x) (c .before .before .before .before .before .before .before .move-row .ensures) (c .before .before .before .leaf-row2 .ensures))
 
 pub close-gap-spec : {M : Type 1} → statement M
 close-gap-spec =

@@ -1,7 +1,7 @@
 use mathlib.Core.Path.{_≡_, ap, ap₂, _∙_}
 use mathlib.Core.List.{List}
 use Prim.Native.Nat.{ℕ}
-use Rattle.cells.specs.Words.{rowAt, storeRow}
+use Rattle.cells.specs.Words.{fiveWords}
 use Rattle.cells.specs.Withdraw.{relink}
 use Rattle.cells.specs.declared.Row.{Row}
 use borrow.Author.Needs.{needs}
@@ -28,10 +28,10 @@ returns c =
     let s = c .before .before in
     let r = c .before .before .before .before .before .before .before .before in
     let d = c .before .before .before .before .before .before .before .before .before .before .before .before .before .args in
-    let e = r .relink-from-root .ensures ∙ ap (λ (x : Row). relink rowAt storeRow 32 32 (d .rows .now) 0 (x .value) (d .last) (d .freed)) (c .before .before .before .before .before .before .before .before .before .before .row-at .ensures) in
+    let e = r .relink-from-root .ensures ∙ ap (λ (x : Row). relink fiveWords 32 32 (d .rows .now) 0 (x .value) (d .last) (d .freed)) (c .before .before .before .before .before .before .before .before .before .before .row-at .ensures) in
     s .store-row .ensures
-    ∙ ap (λ (x : Row). storeRow (r .relink-from-root .last .0) (d .freed) x) (c .before .before .before .before .row-at2 .ensures)
-    ∙ ap (λ (v : List ℕ). storeRow v (d .freed) (rowAt v (d .last))) e
+    ∙ ap (λ (x : Row). fiveWords .put (r .relink-from-root .last .0) (d .freed) x) (c .before .before .before .before .row-at2 .ensures)
+    ∙ ap (λ (v : List ℕ). fiveWords .put v (d .freed) (fiveWords .get v (d .last))) e
 
 pub move-row-spec : {M : Type 1} → statement M
 move-row-spec =

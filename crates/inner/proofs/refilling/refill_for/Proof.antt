@@ -1,5 +1,5 @@
 use Rattle.inner.proofs.Refilled.{refill-same, refill-other}
-use Rattle.cells.specs.Words.{rowAt}
+use Rattle.cells.specs.Words.{fiveWords}
 use borrow.Author.Needs.{needs}
 use Rattle.inner.proofs.refilling.refill_for.Statement.{statement}
 use Rattle.inner.proofs.refilling.refill_for.Tie as tie
@@ -25,7 +25,7 @@ returns c =
     let a = b .before in
     let s = a .before .before in
     let d = s .before .before .args in
-    refill-same 32 (rowAt (d .rows .now)) (d .x) (d .left) (d .q) (s .is-same .result) (s .is-same .ensures) (c .refill-with .result) (a .before .if1 .taken) (a .best-child .result) (b .best-child2 .result) (c .before .first-route .result) (a .best-child .ensures) (b .best-child2 .ensures) (c .before .first-route .ensures) (c .refill-with .ensures)
+    refill-same 32 (fiveWords .get (d .rows .now)) (d .x) (d .left) (d .q) (s .is-same .result) (s .is-same .ensures) (c .refill-with .result) (a .before .if1 .taken) (a .best-child .result) (b .best-child2 .result) (c .before .first-route .result) (a .best-child .ensures) (b .best-child2 .ensures) (c .before .first-route .ensures) (c .refill-with .ensures)
 
 route-of-requires : tie.Need-route-of-requires
 route-of-requires c κs = search needs
@@ -37,7 +37,7 @@ returns-2 : tie.Need-returns-2
 returns-2 c =
     let s = c .before .before .before in
     let d = s .before .before .args in
-    refill-other 32 (rowAt (d .rows .now)) (d .x) (d .left) (d .q) (s .is-same .result) (s .is-same .ensures) (c .refill-with2 .result) (c .before .before .if1 .left) (c .before .route-of .result) (c .before .route-of .ensures) (c .refill-with2 .ensures)
+    refill-other 32 (fiveWords .get (d .rows .now)) (d .x) (d .left) (d .q) (s .is-same .result) (s .is-same .ensures) (c .refill-with2 .result) (c .before .before .if1 .left) (c .before .route-of .result) (c .before .route-of .ensures) (c .refill-with2 .ensures)
 
 pub refill-for-spec : {M : Type 1} → statement M
 refill-for-spec =

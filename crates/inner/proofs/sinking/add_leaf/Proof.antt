@@ -1,7 +1,7 @@
 use mathlib.Core.Path.{ap, ap₂, _∙_}
 use mathlib.Core.List.{List}
 use Prim.Native.Nat.{ℕ}
-use Rattle.cells.specs.Words.{storeRow}
+use Rattle.cells.specs.Words.{fiveWords}
 use Rattle.cells.specs.declared.Row.{Row}
 use borrow.Author.Needs.{needs}
 use Rattle.inner.proofs.sinking.add_leaf.Statement.{statement}
@@ -28,8 +28,8 @@ returns c =
     let d = b .before .before .before .before .before in
     let a = d .before .before .before .before .before .before .args in
     b .store-row2 .ensures
-    ∙ ap₂ (λ (ws : List ℕ) (y : Row). storeRow ws (a .n) y)
-    (d .store-row .ensures ∙ ap (λ (y : Row). storeRow (a .rows .now) (a .row) y) (d .before .with-child .ensures))
+    ∙ ap₂ (λ (ws : List ℕ) (y : Row). fiveWords .put ws (a .n) y)
+    (d .store-row .ensures ∙ ap (λ (y : Row). fiveWords .put (a .rows .now) (a .row) y) (d .before .with-child .ensures))
     (b .before .leaf-row .ensures)
 
 pub add-leaf-spec : {M : Type 1} → statement M

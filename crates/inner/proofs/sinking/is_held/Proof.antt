@@ -1,5 +1,4 @@
 use borrow.Author.Tests.{eq-eqb, ne-eqb}
-use Rattle.inner.proofs.Walking.{walks-of}
 use borrow.Author.Needs.{needs}
 use Rattle.inner.proofs.sinking.is_held.Statement.{statement}
 use Rattle.inner.proofs.sinking.is_held.Tie as tie
@@ -8,7 +7,7 @@ returns : tie.Need-returns
 returns c = rw (eq-eqb _ 0 (c .if1 .taken))
 
 held-from-root-requires : tie.Need-held-from-root-requires
-held-from-root-requires c κs = walks-of _ _ (c .before .before .pre) (c .if1 .left)
+held-from-root-requires c κs = search needs
 
 returns-2 : tie.Need-returns-2
 returns-2 c = rw (ne-eqb _ 0 (c .before .if1 .left)) (c .held-from-root .ensures)

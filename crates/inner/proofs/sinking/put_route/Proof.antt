@@ -1,9 +1,8 @@
 use borrow.Author.Tests.{eq-eqb, ne-eqb}
 use mathlib.Core.Path.{sym, ap, _∙_}
-use Rattle.cells.specs.Words.{storeRow}
+use Rattle.cells.specs.Words.{fiveWords}
 use Rattle.cells.specs.declared.Row.{Row}
 use Rattle.cells.specs.Announce.{announced}
-use Rattle.inner.proofs.Walking.{walks-of, room-first, fits-from}
 use borrow.Author.Needs.{needs}
 use Rattle.inner.proofs.sinking.put_route.Statement.{statement}
 use Rattle.inner.proofs.sinking.put_route.Tie as tie
@@ -12,9 +11,7 @@ leaf-row-requires : tie.Need-leaf-row-requires
 leaf-row-requires c κs = search needs
 
 store-row-requires : tie.Need-store-row-requires
-store-row-requires c κs =
-    let s = c .before .before .before .before in
-    room-first (s .args .rows .now) (s .args .n) (s .args .q) (c .before .before .if1 .taken) (s .pre .1)
+store-row-requires c κs = search needs
 
 same-length : tie.Need-same-length
 same-length c = search needs
@@ -23,12 +20,10 @@ returns : tie.Need-returns
 unfolding announced
 returns c =
     let d = c .before .before .before .before .before .before .before .args in
-    rw (eq-eqb (d .n) 0 (c .before .before .before .before .before .if1 .taken)) (c .before .before .store-row .ensures ∙ ap (λ (x : Row). storeRow (d .rows .now) 0 x) (c .before .before .before .leaf-row .ensures))
+    rw (eq-eqb (d .n) 0 (c .before .before .before .before .before .if1 .taken)) (c .before .before .store-row .ensures ∙ ap (λ (x : Row). fiveWords .put (d .rows .now) 0 x) (c .before .before .before .leaf-row .ensures))
 
 sink-from-root-requires : tie.Need-sink-from-root-requires
-sink-from-root-requires c κs =
-    let s = c .before .before .before in
-    (walks-of _ _ (s .pre .0) (c .before .if1 .left), fits-from (s .args .rows .now) (s .args .n) (s .args .q) (c .before .if1 .left) (s .pre .1))
+sink-from-root-requires c κs = search needs
 
 same-length-2 : tie.Need-same-length-2
 same-length-2 c = search needs

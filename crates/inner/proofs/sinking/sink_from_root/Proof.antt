@@ -4,36 +4,35 @@ use mathlib.Core.Path.{_≡_, refl, sym, ap, _∙_}
 use mathlib.Core.Bool.{Bool, true}
 use mathlib.Core.List.{List}
 use Prim.Native.Nat.{ℕ}
-use lib.ListN.{length-set}
+use lib.ListN.{length}
 use Rattle.cells.specs.Rows.{withRoute}
-use Rattle.cells.specs.Words.{rowAt, storeRow}
+use Rattle.cells.specs.Words.{fiveWords}
 use Rattle.cells.specs.Announce.{isSame, sink}
 use Rattle.cells.specs.declared.Row.{Row}
-use Rattle.inner.proofs.Sunk.{Sinking, row-lies, sinking-same, sinking-last, sinking-fits, sinking-leaf, sinking-more}
+use Rattle.inner.proofs.Sunk.{Sinking, sinking-same, sinking-last, sinking-leaf, sinking-more}
 use Rattle.inner.proofs.sinking.sink_from_root.Statement.{statement}
 use Rattle.inner.proofs.sinking.sink_from_root.Tie as tie
 
 abbrev Inv-loop : tie.InvT-loop
-Inv-loop rows₀ n q₀ left₀ row₀ rows q left row = Sinking 32 rows₀ rows n q₀ q left row
+Inv-loop rows₀ n q₀ left₀ row₀ rows q left row = Sinking fiveWords 32 rows₀ rows n q₀ q left row × (length rows ≡ length rows₀)
 
 abbrev μ-loop : tie.MeasureT-loop
 μ-loop rows₀ n q₀ left₀ row₀ rows q left row = left
 
 loop-holds : tie.Need-loop-holds Inv-loop μ-loop
 loop-holds c =
-    let p = c .before .pre in
-    record { bits = search needs; below = p .0 .some; size = refl; closed = p .0 .closed; fits = p .1; rest = refl }
+    (record { bits = search needs; rest = refl }, refl)
 
 -- the prefix is at the row that the loop has come to
 sunk-here : (t : tie.At-loop Inv-loop μ-loop) {x y : Row} {a : Bool} {ws : List ℕ}
     → let l = t .loop in
     let e = t .before .before .args in
-    x ≡ rowAt (l .rows) (l .row) → a ≡ isSame (l .q) x → a ≡ true → y ≡ withRoute x (l .q) → ws ≡ storeRow (l .rows) (l .row) y
-    → ws ≡ sink rowAt storeRow 32 32 (e .rows .now) (e .n) 0 (e .route)
+    x ≡ fiveWords .get (l .rows) (l .row) → a ≡ isSame (l .q) x → a ≡ true → y ≡ withRoute x (l .q) → ws ≡ fiveWords .put (l .rows) (l .row) y
+    → ws ≡ sink fiveWords 32 32 (e .rows .now) (e .n) 0 (e .route)
 sunk-here t {x} {y} {a} {ws} is same here with-q stored =
     let l = t .loop in
-    sinking-same 32 _ (l .rows) _ _ (l .q) (l .left) (l .row) (t .before .before .pre .0 .lies) (l .inv) x is a same here ws
-    (stored ∙ ap (λ (z : Row). storeRow (l .rows) (l .row) z) with-q)
+    sinking-same fiveWords 32 _ (l .rows) _ _ (l .q) (l .left) (l .row) (l .inv .0) x is a same here ws
+    (stored ∙ ap (λ (z : Row). fiveWords .put (l .rows) (l .row) z) with-q)
 
 row-at-requires : tie.Need-row-at-requires Inv-loop μ-loop
 row-at-requires c κs = search needs
@@ -50,7 +49,7 @@ store-row-requires c κs = search needs
 same-length : tie.Need-same-length Inv-loop μ-loop
 same-length c =
     let l = c .before .before .before .before .before .before .before .before .before .before .loop in
-    c .before .before .store-row .kept .0 ∙ l .inv .size
+    c .before .before .store-row .kept .0 ∙ l .inv .1
 
 returns : tie.Need-returns Inv-loop μ-loop
 returns c =
@@ -65,20 +64,12 @@ plan-for-requires : tie.Need-plan-for-requires Inv-loop μ-loop
 plan-for-requires c κs = search needs
 
 add-leaf-requires : tie.Need-add-leaf-requires Inv-loop μ-loop
-add-leaf-requires c κs =
-    let p = c .before .before .before in
-    let s = p .before .before in
-    let x = s .before in
-    let l = x .before .before .before .loop in
-    let lies = x .before .before .before .before .before .pre .0 .lies in (
-      row-lies 32 _ (l .rows) _ _ (l .q) (l .left) (l .row) lies (l .inv) (x .row-at .result) (x .row-at .ensures) (s .is-same .result) (s .is-same .ensures),
-      sinking-fits 32 _ (l .rows) _ _ (l .q) (l .left) (l .row) lies (l .inv) (x .row-at .result) (x .row-at .ensures) (s .is-same .result) (s .is-same .ensures) (search needs) (p .before .if1 .left) (p .plan-for .result) (p .plan-for .ensures) (c .before .if2 .taken),
-    )
+add-leaf-requires c κs = search needs
 
 same-length-2 : tie.Need-same-length-2 Inv-loop μ-loop
 same-length-2 c =
     let l = c .before .before .before .before .before .before .before .before .before .before .before .before .loop in
-    c .before .before .add-leaf .kept .0 ∙ l .inv .size
+    c .before .before .add-leaf .kept .0 ∙ l .inv .1
 
 returns-2 : tie.Need-returns-2 Inv-loop μ-loop
 returns-2 c =
@@ -87,7 +78,7 @@ returns-2 c =
     let s = p .before .before in
     let x = s .before in
     let l = x .before .before .before .loop in
-    sinking-leaf 32 _ (l .rows) _ _ (l .q) (l .left) (l .row) (x .before .before .before .before .before .pre .0 .lies) (l .inv) (x .row-at .result) (x .row-at .ensures) (s .is-same .result) (s .is-same .ensures) (search needs) (p .before .if1 .left) (p .plan-for .result) (p .plan-for .ensures) (d .before .before .if2 .taken) _ (d .add-leaf .ensures)
+    sinking-leaf fiveWords 32 _ (l .rows) _ _ (l .q) (l .left) (l .row) (l .inv .0) (x .row-at .result) (x .row-at .ensures) (s .is-same .result) (s .is-same .ensures) (search needs) (p .before .if1 .left) (p .plan-for .result) (p .plan-for .ensures) (d .before .before .if2 .taken) _ (d .add-leaf .ensures)
 
 store-row-requires-2 : tie.Need-store-row-requires-2 Inv-loop μ-loop
 store-row-requires-2 c κs = search needs
@@ -102,7 +93,7 @@ loop-again c =
     let s = p .before .before in
     let x = s .before in
     let l = x .before .before .before .loop in
-    sinking-more 32 _ (l .rows) _ _ (l .q) (l .left) (l .row) (x .before .before .before .before .before .pre .0 .lies) (l .inv) (x .row-at .result) (x .row-at .ensures) (s .is-same .result) (s .is-same .ensures) (search needs) (p .before .if1 .left) (p .plan-for .result) (p .plan-for .ensures) (d .before .before .if2 .left) _ (d .store-row2 .ensures)
+    (sinking-more fiveWords 32 _ (l .rows) _ _ (l .q) (l .left) (l .row) (l .inv .0) (x .row-at .result) (x .row-at .ensures) (s .is-same .result) (s .is-same .ensures) (search needs) (p .before .if1 .left) (p .plan-for .result) (p .plan-for .ensures) (d .before .before .if2 .left) _ (d .store-row2 .ensures), d .store-row2 .kept .0 ∙ l .inv .1)
 
 row-at-requires-2 : tie.Need-row-at-requires-2 Inv-loop μ-loop
 row-at-requires-2 c κs = search needs
@@ -119,7 +110,7 @@ store-row-requires-3 c κs = search needs
 same-length-3 : tie.Need-same-length-3 Inv-loop μ-loop
 same-length-3 c =
     let l = c .before .before .before .before .before .before .before .before .before .before .loop in
-    c .before .before .store-row3 .kept .0 ∙ l .inv .size
+    c .before .before .store-row3 .kept .0 ∙ l .inv .1
 
 returns-3 : tie.Need-returns-3 Inv-loop μ-loop
 returns-3 c =
@@ -128,14 +119,14 @@ returns-3 c =
     sunk-here (s .before .before .before .before) (s .before .row-at2 .ensures) (s .is-same2 .ensures) (d .before .before .before .if3 .taken) (d .before .with-route2 .ensures) (d .store-row3 .ensures)
 
 same-length-4 : tie.Need-same-length-4 Inv-loop μ-loop
-same-length-4 c = search needs
+same-length-4 c = c .before .before .before .before .before .loop .inv .1
 
 returns-4 : tie.Need-returns-4 Inv-loop μ-loop
 returns-4 c =
     let s = c .before in
     let x = s .before in
     let l = x .before .before .before .loop in
-    sinking-last 32 _ (l .rows) _ _ (l .q) (l .left) (l .row) (x .before .before .before .before .before .pre .0 .lies) (l .inv) (x .row-at2 .result) (x .row-at2 .ensures) (s .is-same2 .result) (s .is-same2 .ensures) (omega arith) (c .if3 .left)
+    sinking-last fiveWords 32 _ (l .rows) _ _ (l .q) (l .left) (l .row) (l .inv .0) (x .row-at2 .result) (x .row-at2 .ensures) (s .is-same2 .result) (s .is-same2 .ensures) (omega arith) (c .if3 .left)
 
 pub sink-from-root-spec : {M : Type 1} → statement M
 sink-from-root-spec =

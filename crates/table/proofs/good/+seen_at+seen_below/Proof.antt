@@ -20,7 +20,7 @@ use Rattle.prefix.proofs.Prefix.right.Reads as right-reads
 use Rattle.table.proofs.good.last_seen.Reads as last-seen-reads
 use Rattle.table.proofs.good.seen_join.Reads as seen-join-reads
 use Rattle.table.proofs.is_wrong.Reads as is-wrong-reads
-use Rattle.rows.proofs.row_at.Reads as row-at-reads
+use Rattle.rows.proofs.whole_row.Reads as whole-row-reads
 use Rattle.table.proofs.good.+seen_at+seen_below.{statement}
 use Rattle.table.proofs.good.+seen_at+seen_below.Tie.{close}
 
@@ -44,9 +44,9 @@ abbrev seen-below-below : ℕ → In 1 seen-below-kinds.ps
 seen-below-below t =
     and 1 seen-below-kinds.ps (falls 1 seen-below-kinds.ps _<_ μ-seen-below t) seen-below.Pre
 
-seen-at-row-at-requires : (t : ℕ) → seen-at-lts.Need-row-at-requires (
-  row-at-reads.Asked,
-  row-at-reads.Learnt,
+seen-at-whole-row-requires : (t : ℕ) → seen-at-lts.Need-whole-row-requires (
+  whole-row-reads.Asked,
+  whole-row-reads.Learnt,
   is-wrong-reads.Asked,
   is-wrong-reads.Learnt,
   last-seen-reads.Asked,
@@ -60,11 +60,11 @@ seen-at-row-at-requires : (t : ℕ) → seen-at-lts.Need-row-at-requires (
   seen-join-reads.Asked,
   seen-join-reads.Learnt,
 ) (seen-at-at t) seen-at.Post
-seen-at-row-at-requires t c κs = omega arith
+seen-at-whole-row-requires t c κs = omega arith
 
 seen-at-is-wrong-requires : (t : ℕ) → seen-at-lts.Need-is-wrong-requires (
-  row-at-reads.Asked,
-  row-at-reads.Learnt,
+  whole-row-reads.Asked,
+  whole-row-reads.Learnt,
   is-wrong-reads.Asked,
   is-wrong-reads.Learnt,
   last-seen-reads.Asked,
@@ -81,8 +81,8 @@ seen-at-is-wrong-requires : (t : ℕ) → seen-at-lts.Need-is-wrong-requires (
 seen-at-is-wrong-requires t c κs = search needs
 
 seen-at-returns : (t : ℕ) → seen-at-lts.Need-returns (
-  row-at-reads.Asked,
-  row-at-reads.Learnt,
+  whole-row-reads.Asked,
+  whole-row-reads.Learnt,
   is-wrong-reads.Asked,
   is-wrong-reads.Learnt,
   last-seen-reads.Asked,
@@ -99,11 +99,11 @@ seen-at-returns : (t : ℕ) → seen-at-lts.Need-returns (
 seen-at-returns t c =
     let s = c .before .before in
     let a = s .before .before in
-    to-wrong 32 _ _ (a .args .path) _ (a .pre .1 .2) _ (s .row-at .ensures) _ (c .before .is-wrong .ensures) (c .if1 .taken)
+    to-wrong 32 _ _ (a .args .path) _ (a .pre .1 .2) _ (s .whole-row .ensures) _ (c .before .is-wrong .ensures) (c .if1 .taken)
 
 seen-at-last-seen-requires : (t : ℕ) → seen-at-lts.Need-last-seen-requires (
-  row-at-reads.Asked,
-  row-at-reads.Learnt,
+  whole-row-reads.Asked,
+  whole-row-reads.Learnt,
   is-wrong-reads.Asked,
   is-wrong-reads.Learnt,
   last-seen-reads.Asked,
@@ -120,8 +120,8 @@ seen-at-last-seen-requires : (t : ℕ) → seen-at-lts.Need-last-seen-requires (
 seen-at-last-seen-requires t c κs = search needs
 
 seen-at-returns-2 : (t : ℕ) → seen-at-lts.Need-returns-2 (
-  row-at-reads.Asked,
-  row-at-reads.Learnt,
+  whole-row-reads.Asked,
+  whole-row-reads.Learnt,
   is-wrong-reads.Asked,
   is-wrong-reads.Learnt,
   last-seen-reads.Asked,
@@ -138,11 +138,11 @@ seen-at-returns-2 : (t : ℕ) → seen-at-lts.Need-returns-2 (
 seen-at-returns-2 t c =
     let s = c .before .before .before .before .before in
     let a = s .before .before in
-    to-last 32 _ _ (a .args .path) _ (a .pre .1 .2) _ (s .row-at .ensures) _ (c .before .before .before .before .is-wrong .ensures) (c .before .before .before .if1 .left) (c .before .if2 .taken) _ (c .last-seen .ensures)
+    to-last 32 _ _ (a .args .path) _ (a .pre .1 .2) _ (s .whole-row .ensures) _ (c .before .before .before .before .is-wrong .ensures) (c .before .before .before .if1 .left) (c .before .if2 .taken) _ (c .last-seen .ensures)
 
 seen-at-left-requires : (t : ℕ) → seen-at-lts.Need-left-requires (
-  row-at-reads.Asked,
-  row-at-reads.Learnt,
+  whole-row-reads.Asked,
+  whole-row-reads.Learnt,
   is-wrong-reads.Asked,
   is-wrong-reads.Learnt,
   last-seen-reads.Asked,
@@ -159,8 +159,8 @@ seen-at-left-requires : (t : ℕ) → seen-at-lts.Need-left-requires (
 seen-at-left-requires t c κs = search needs
 
 seen-at-seen-below-requires : (t : ℕ) → seen-at-lts.Need-seen-below-requires (
-  row-at-reads.Asked,
-  row-at-reads.Learnt,
+  whole-row-reads.Asked,
+  whole-row-reads.Learnt,
   is-wrong-reads.Asked,
   is-wrong-reads.Learnt,
   last-seen-reads.Asked,
@@ -181,12 +181,12 @@ seen-at-seen-below-requires t c κs =
     let ne = c .before .if2 .left in
     let more : a .args .path .len < 32 = omega arith in
     let len = half-len 32 (a .args .path) more ok false _ (c .left .ensures) in
-    let low = child-lt 32 (b .before .row-at .result) (a .args .n) _ _ _ (b .is-wrong .ensures) (c .before .before .before .if1 .left) false in
+    let low = child-lt 32 (b .before .whole-row .result) (a .args .n) _ _ _ (b .is-wrong .ensures) (c .before .before .before .if1 .left) false in
     (omega arith, (low, a .pre .1 .1, half-valid 32 (a .args .path) more ok false _ (c .left .ensures)))
 
 seen-at-returns-3 : (t : ℕ) → seen-at-lts.Need-returns-3 (
-  row-at-reads.Asked,
-  row-at-reads.Learnt,
+  whole-row-reads.Asked,
+  whole-row-reads.Learnt,
   is-wrong-reads.Asked,
   is-wrong-reads.Learnt,
   last-seen-reads.Asked,
@@ -205,11 +205,11 @@ seen-at-returns-3 t c =
     let a = b .before .before .before in
     let ok = a .pre .1 .2 in
     let ne = c .before .before .before .if2 .left in
-    to-left-wrong 32 _ _ (a .args .path) _ ok _ (b .before .row-at .ensures) _ (b .is-wrong .ensures) (c .before .before .before .before .before .if1 .left) (omega arith) _ (c .before .before .left .ensures) _ (c .before .seen-below .ensures) (c .if3 .taken)
+    to-left-wrong 32 _ _ (a .args .path) _ ok _ (b .before .whole-row .ensures) _ (b .is-wrong .ensures) (c .before .before .before .before .before .if1 .left) (omega arith) _ (c .before .before .left .ensures) _ (c .before .seen-below .ensures) (c .if3 .taken)
 
 seen-at-right-requires : (t : ℕ) → seen-at-lts.Need-right-requires (
-  row-at-reads.Asked,
-  row-at-reads.Learnt,
+  whole-row-reads.Asked,
+  whole-row-reads.Learnt,
   is-wrong-reads.Asked,
   is-wrong-reads.Learnt,
   last-seen-reads.Asked,
@@ -226,8 +226,8 @@ seen-at-right-requires : (t : ℕ) → seen-at-lts.Need-right-requires (
 seen-at-right-requires t c κs = search needs
 
 seen-at-seen-below-requires-2 : (t : ℕ) → seen-at-lts.Need-seen-below-requires-2 (
-  row-at-reads.Asked,
-  row-at-reads.Learnt,
+  whole-row-reads.Asked,
+  whole-row-reads.Learnt,
   is-wrong-reads.Asked,
   is-wrong-reads.Learnt,
   last-seen-reads.Asked,
@@ -248,12 +248,12 @@ seen-at-seen-below-requires-2 t c κs =
     let ne = c .before .before .before .before .if2 .left in
     let more : a .args .path .len < 32 = omega arith in
     let len = half-len 32 (a .args .path) more ok true _ (c .right .ensures) in
-    let low = child-lt 32 (b .before .row-at .result) (a .args .n) _ _ _ (b .is-wrong .ensures) (c .before .before .before .before .before .before .if1 .left) true in
+    let low = child-lt 32 (b .before .whole-row .result) (a .args .n) _ _ _ (b .is-wrong .ensures) (c .before .before .before .before .before .before .if1 .left) true in
     (omega arith, (low, a .pre .1 .1, half-valid 32 (a .args .path) more ok true _ (c .right .ensures)))
 
 seen-at-seen-join-requires : (t : ℕ) → seen-at-lts.Need-seen-join-requires (
-  row-at-reads.Asked,
-  row-at-reads.Learnt,
+  whole-row-reads.Asked,
+  whole-row-reads.Learnt,
   is-wrong-reads.Asked,
   is-wrong-reads.Learnt,
   last-seen-reads.Asked,
@@ -273,7 +273,7 @@ seen-at-seen-join-requires t c κs =
     let a = b .before .before .before in
     let ok = a .pre .1 .2 in
     let ne = l .before .before .if2 .left in
-    let x = b .before .row-at .result in
+    let x = b .before .whole-row .result in
     let M = rowAt (a .args .rows .now) in
     let more : a .args .path .len < 32 = omega arith in (
       half-rows 32 M (a .args .n) (a .args .path) more ok false _ (l .before .left .ensures) (x .left) _ (l .seen-below .ensures),
@@ -281,8 +281,8 @@ seen-at-seen-join-requires t c κs =
     )
 
 seen-at-returns-4 : (t : ℕ) → seen-at-lts.Need-returns-4 (
-  row-at-reads.Asked,
-  row-at-reads.Learnt,
+  whole-row-reads.Asked,
+  whole-row-reads.Learnt,
   is-wrong-reads.Asked,
   is-wrong-reads.Learnt,
   last-seen-reads.Asked,
@@ -302,7 +302,7 @@ seen-at-returns-4 t c =
     let a = b .before .before .before in
     let ok = a .pre .1 .2 in
     let ne = l .before .before .if2 .left in
-    to-join 32 _ _ (a .args .path) _ ok _ (b .before .row-at .ensures) _ (b .is-wrong .ensures) (l .before .before .before .before .if1 .left) (omega arith) _ (l .before .left .ensures) _ (l .seen-below .ensures) _ (c .before .before .right .ensures) _ (c .before .seen-below2 .ensures) _ (c .seen-join .ensures)
+    to-join 32 _ _ (a .args .path) _ ok _ (b .before .whole-row .ensures) _ (b .is-wrong .ensures) (l .before .before .before .before .if1 .left) (omega arith) _ (l .before .left .ensures) _ (l .seen-below .ensures) _ (c .before .before .right .ensures) _ (c .before .seen-below2 .ensures) _ (c .seen-join .ensures)
 
 seen-below-returns :
     (t : ℕ) →
@@ -325,8 +325,8 @@ seen-below-returns-2 t c = rw (ne-eqb _ 0 (c .before .if1 .left)) (c .seen-at .e
 
 pub +seen-at+seen-below-spec : {M : Type 1} → statement M
 +seen-at+seen-below-spec = close μ-seen-at μ-seen-below (λ t. seen-at-lts.spec (
-  row-at-reads.Asked,
-  row-at-reads.Learnt,
+  whole-row-reads.Asked,
+  whole-row-reads.Learnt,
   is-wrong-reads.Asked,
   is-wrong-reads.Learnt,
   last-seen-reads.Asked,
@@ -342,7 +342,7 @@ pub +seen-at+seen-below-spec : {M : Type 1} → statement M
 )
     (seen-at-at t)
     seen-at.Post
-    (seen-at-row-at-requires t)
+    (seen-at-whole-row-requires t)
     (seen-at-is-wrong-requires t)
     (seen-at-returns t)
     (seen-at-last-seen-requires t)

@@ -5,7 +5,7 @@
 help:
 	@echo "make test        prove every crate, try every must-fail edit, run every program and test; ends in 'N passed, 0 failed'"
 	@echo "make prove       prove every crate that has changed, and run the programs"
-	@echo "make lib         leave libmaftehon.a and its headers in target/lib"
+	@echo "make lib         leave libmaftehon.a and its header in target/lib"
 	@echo "make fuzz        compare the library with the reference on fresh seeds for SECONDS=60"
 	@echo "make exhaustive  compare both tries with the run listing at all 2^32 addresses (35 minutes)"
 	@echo "make bench       measure the library against plain Rust and C, print a table, draw docs/speed.svg"

@@ -6,7 +6,11 @@ use crate::tally::Tally;
 use reference::Answer;
 use std::fmt::{self, Debug};
 
-/// What a compared call gives where the two libraries agree.
+/// What a compared call, or a scenario of them, gives where the two libraries agree.
+///
+/// # Errors
+///
+/// Of every function that gives this: the first call on which they differ, and nothing else.
 pub type Compared<T> = Result<T, Difference>;
 
 /// A call on which the two libraries differ.

@@ -2,13 +2,14 @@
 //! out.
 //!
 //! SAFETY, once for every `unsafe` block below: the boundary asks that each pointer is valid for its size, aligned and
-//! not null, and that `answer` overlaps nothing else. A slice's pointer is all of the first even where the slice is
-//! empty, its length counts elements as the boundary does, a `&mut` slice overlaps no other slice, and `answer` is a
-//! fresh array of the size that the header states. The library keeps no pointer after the call.
+//! not null, and that neither `answer` nor memory to be written overlaps anything else. A slice's pointer is all of the
+//! first even where the slice is empty, its length counts elements as the boundary does, a `&mut` slice overlaps no
+//! other slice, and `answer` is a fresh array of the size that the header states. The library keeps no pointer after
+//! the call.
 //!
 //! The lookups are so short that they are inlined: nothing comes between a program and the library.
 
-use crate::ffi;
+use maftehon_sys as sys;
 
 /// What a call answers: its number, 0 where it is done, and the words of `answer`, the place first.
 #[derive(Clone, Copy, PartialEq, Eq, Debug)]
@@ -28,53 +29,53 @@ fn reply<const N: usize>(call: impl FnOnce(*mut u32) -> u32) -> Reply<N> {
 
 /// Reads a route file into a list. Answer: place, routes read.
 pub fn file_read(file: &[u8], list: &mut [u32]) -> Reply<2> {
-    reply(|answer| unsafe { ffi::mft_file_read(file.as_ptr(), file.len(), list.as_mut_ptr(), list.len(), answer) })
+    reply(|answer| unsafe { sys::mft_file_read(file.as_ptr(), file.len(), list.as_mut_ptr(), list.len(), answer) })
 }
 
 /// Writes a list as a route file. Answer: place, bytes written.
 pub fn file_write(list: &[u32], file: &mut [u8]) -> Reply<2> {
-    reply(|answer| unsafe { ffi::mft_file_write(list.as_ptr(), list.len(), file.as_mut_ptr(), file.len(), answer) })
+    reply(|answer| unsafe { sys::mft_file_write(list.as_ptr(), list.len(), file.as_mut_ptr(), file.len(), answer) })
 }
 
 /// Checks a list. Answer: place.
 pub fn list_check(list: &[u32]) -> Reply<1> {
-    reply(|answer| unsafe { ffi::mft_list_check(list.as_ptr(), list.len(), answer) })
+    reply(|answer| unsafe { sys::mft_list_check(list.as_ptr(), list.len(), answer) })
 }
 
 /// The plain scan of a list. Answer: place, port.
 pub fn list_scan(list: &[u32], address: u32) -> Reply<2> {
-    reply(|answer| unsafe { ffi::mft_list_scan(list.as_ptr(), list.len(), address, answer) })
+    reply(|answer| unsafe { sys::mft_list_scan(list.as_ptr(), list.len(), address, answer) })
 }
 
 /// Checks that a table is in good order. Answer: place.
 pub fn table_check(rows: &[u32], n: u32) -> Reply<1> {
-    reply(|answer| unsafe { ffi::mft_table_check(rows.as_ptr(), rows.len(), n, answer) })
+    reply(|answer| unsafe { sys::mft_table_check(rows.as_ptr(), rows.len(), n, answer) })
 }
 
 /// Looks an address up in any rows. Answer: place, port, rows read.
 #[inline]
 pub fn table_lookup(rows: &[u32], n: u32, address: u32) -> Reply<3> {
-    reply(|answer| unsafe { ffi::mft_table_lookup(rows.as_ptr(), rows.len(), n, address, answer) })
+    reply(|answer| unsafe { sys::mft_table_lookup(rows.as_ptr(), rows.len(), n, address, answer) })
 }
 
 /// Announces a route. Answer: place, n.
 pub fn table_announce(rows: &mut [u32], n: u32, value: u32, length: u32, port: u32) -> Reply<2> {
-    reply(|answer| unsafe { ffi::mft_table_announce(rows.as_mut_ptr(), rows.len(), n, value, length, port, answer) })
+    reply(|answer| unsafe { sys::mft_table_announce(rows.as_mut_ptr(), rows.len(), n, value, length, port, answer) })
 }
 
 /// Withdraws a prefix. Answer: place, n.
 pub fn table_withdraw(rows: &mut [u32], n: u32, value: u32, length: u32) -> Reply<2> {
-    reply(|answer| unsafe { ffi::mft_table_withdraw(rows.as_mut_ptr(), rows.len(), n, value, length, answer) })
+    reply(|answer| unsafe { sys::mft_table_withdraw(rows.as_mut_ptr(), rows.len(), n, value, length, answer) })
 }
 
 /// Builds a table from a list. Answer: place, n.
 pub fn table_build(list: &[u32], rows: &mut [u32]) -> Reply<2> {
-    reply(|answer| unsafe { ffi::mft_table_build(list.as_ptr(), list.len(), rows.as_mut_ptr(), rows.len(), answer) })
+    reply(|answer| unsafe { sys::mft_table_build(list.as_ptr(), list.len(), rows.as_mut_ptr(), rows.len(), answer) })
 }
 
 /// Saves a table as a list. Answer: place, routes.
 pub fn table_save(rows: &[u32], n: u32, list: &mut [u32]) -> Reply<2> {
-    reply(|answer| unsafe { ffi::mft_table_save(rows.as_ptr(), rows.len(), n, list.as_mut_ptr(), list.len(), answer) })
+    reply(|answer| unsafe { sys::mft_table_save(rows.as_ptr(), rows.len(), n, list.as_mut_ptr(), list.len(), answer) })
 }
 
 /// Builds an image from a list. Answer: place, nodes, ports written.
@@ -82,7 +83,7 @@ pub fn image_build(stride: u32, list: &[u32], nodes: &mut [u32], ports: &mut [u1
     let (node_words, port_count) = (nodes.len(), ports.len());
     let (nodes, ports) = (nodes.as_mut_ptr(), ports.as_mut_ptr());
     reply(|answer| unsafe {
-        ffi::mft_image_build(stride, list.as_ptr(), list.len(), nodes, node_words, ports, port_count, answer)
+        sys::mft_image_build(stride, list.as_ptr(), list.len(), nodes, node_words, ports, port_count, answer)
     })
 }
 
@@ -90,7 +91,7 @@ pub fn image_build(stride: u32, list: &[u32], nodes: &mut [u32], ports: &mut [u1
 #[inline]
 pub fn image_lookup(stride: u32, nodes: &[u32], ports: &[u16], address: u32) -> Reply<3> {
     reply(|answer| unsafe {
-        ffi::mft_image_lookup(stride, nodes.as_ptr(), nodes.len(), ports.as_ptr(), ports.len(), address, answer)
+        sys::mft_image_lookup(stride, nodes.as_ptr(), nodes.len(), ports.as_ptr(), ports.len(), address, answer)
     })
 }
 
@@ -98,7 +99,7 @@ pub fn image_lookup(stride: u32, nodes: &[u32], ports: &[u16], address: u32) -> 
 #[inline]
 pub fn image_lookup_1(nodes: &[u32], ports: &[u16], address: u32) -> Reply<3> {
     reply(|answer| unsafe {
-        ffi::mft_image_lookup_1(nodes.as_ptr(), nodes.len(), ports.as_ptr(), ports.len(), address, answer)
+        sys::mft_image_lookup_1(nodes.as_ptr(), nodes.len(), ports.as_ptr(), ports.len(), address, answer)
     })
 }
 
@@ -106,7 +107,7 @@ pub fn image_lookup_1(nodes: &[u32], ports: &[u16], address: u32) -> Reply<3> {
 #[inline]
 pub fn image_lookup_2(nodes: &[u32], ports: &[u16], address: u32) -> Reply<3> {
     reply(|answer| unsafe {
-        ffi::mft_image_lookup_2(nodes.as_ptr(), nodes.len(), ports.as_ptr(), ports.len(), address, answer)
+        sys::mft_image_lookup_2(nodes.as_ptr(), nodes.len(), ports.as_ptr(), ports.len(), address, answer)
     })
 }
 
@@ -114,16 +115,16 @@ pub fn image_lookup_2(nodes: &[u32], ports: &[u16], address: u32) -> Reply<3> {
 #[inline]
 pub fn image_lookup_4(nodes: &[u32], ports: &[u16], address: u32) -> Reply<3> {
     reply(|answer| unsafe {
-        ffi::mft_image_lookup_4(nodes.as_ptr(), nodes.len(), ports.as_ptr(), ports.len(), address, answer)
+        sys::mft_image_lookup_4(nodes.as_ptr(), nodes.len(), ports.as_ptr(), ports.len(), address, answer)
     })
 }
 
 /// Lists the runs of a list. Answer: place, runs.
 pub fn list_runs(list: &[u32], runs: &mut [u32]) -> Reply<2> {
-    reply(|answer| unsafe { ffi::mft_list_runs(list.as_ptr(), list.len(), runs.as_mut_ptr(), runs.len(), answer) })
+    reply(|answer| unsafe { sys::mft_list_runs(list.as_ptr(), list.len(), runs.as_mut_ptr(), runs.len(), answer) })
 }
 
 /// Lists the runs of a table. Answer: place, runs.
 pub fn table_runs(rows: &[u32], n: u32, runs: &mut [u32]) -> Reply<2> {
-    reply(|answer| unsafe { ffi::mft_table_runs(rows.as_ptr(), rows.len(), n, runs.as_mut_ptr(), runs.len(), answer) })
+    reply(|answer| unsafe { sys::mft_table_runs(rows.as_ptr(), rows.len(), n, runs.as_mut_ptr(), runs.len(), answer) })
 }

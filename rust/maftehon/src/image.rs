@@ -23,13 +23,17 @@ pub enum Stride {
 impl TryFrom<u32> for Stride {
     type Error = Refusal;
 
-    /// Refuses 12 for a number other than 1, 2 and 4.
+    /// The stride of that many bits.
+    ///
+    /// # Errors
+    ///
+    /// - 12, [`Refusal::WrongStride`]: the number is not 1, 2 or 4.
     fn try_from(bits: u32) -> Result<Stride, Refusal> {
         match bits {
             1 => Ok(Stride::One),
             2 => Ok(Stride::Two),
             4 => Ok(Stride::Four),
-            _ => Err(Refusal::StrideNot124),
+            _ => Err(Refusal::WrongStride),
         }
     }
 }
@@ -37,14 +41,14 @@ impl TryFrom<u32> for Stride {
 /// The image of a list.
 ///
 /// ```
-/// use maftehon::{Image, Refusal, Route, RouteList, Stride};
+/// use maftehon::{Image, RouteList, Stride};
 /// use std::net::Ipv4Addr;
 ///
-/// let list = RouteList::from_routes(&[Route::new(Ipv4Addr::new(10, 0, 0, 0), 8, 7)?])?;
+/// let list = RouteList::from_routes(&["10.0.0.0/8 7".parse()?])?;
 /// let image = Image::build(&list, Stride::Four);
 /// let found = image.lookup(Ipv4Addr::new(10, 1, 2, 3));
 /// assert_eq!((found.port, found.read), (Some(7), 2));
-/// # Ok::<(), Refusal>(())
+/// # Ok::<(), Box<dyn std::error::Error>>(())
 /// ```
 #[derive(Clone, PartialEq, Eq, Debug)]
 pub struct Image {

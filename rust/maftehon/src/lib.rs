@@ -1,39 +1,40 @@
 //! The proved route library of the floor gateway, for Rust programs.
 //!
 //! [`RouteList`], [`Table`] and [`Image`] own their memory and are always valid, so that most calls cannot be refused;
-//! what can be answers a [`Refusal`] and changes nothing. [`calls`] has the calls of the C boundary one for one, on
-//! memory that the caller lends, and [`ffi`] the boundary itself.
+//! what can be answers a [`Refusal`] and changes nothing. A [`Route`] and its [`Prefix`] are read from the text that
+//! they print, and a text that is none answers a [`ParseError`]. [`calls`] has the calls of the C boundary one for one,
+//! on memory that the caller lends, and [`sys`] the boundary itself, with its numbers by name.
 //!
 //! ```
-//! use maftehon::{Image, Refusal, Route, RouteList, Stride, Table};
+//! use maftehon::{Image, RouteList, Stride, Table};
 //! use std::net::Ipv4Addr;
 //!
-//! let list = RouteList::from_routes(&[
-//!     Route::new(Ipv4Addr::new(10, 0, 0, 0), 8, 7)?,
-//!     Route::new(Ipv4Addr::new(10, 1, 0, 0), 16, 9)?,
-//! ])?;
+//! let list = RouteList::from_routes(&["10.0.0.0/8 7".parse()?, "10.1.0.0/16 9".parse()?])?;
 //! let image = Image::build(&list, Stride::Four);
 //! let table = Table::build(&list, 4096)?;
 //! let address = Ipv4Addr::new(10, 1, 2, 3);
 //! assert_eq!(image.lookup(address).port, Some(9));
 //! assert_eq!(table.lookup(address).port, Some(9));
 //! assert_eq!(table.runs(), list.runs());
-//! # Ok::<(), Refusal>(())
+//! # Ok::<(), Box<dyn std::error::Error>>(())
 //! ```
 
-#![warn(missing_docs)]
+#![warn(missing_docs, clippy::missing_errors_doc)]
 
 pub mod calls;
-#[allow(missing_docs)]
-pub mod ffi;
 mod image;
 mod list;
+mod prefix;
 mod refusal;
 mod route;
 mod table;
+mod text;
 
 pub use image::{Image, Stride};
 pub use list::{RouteList, ROUTES_LAST};
+pub use maftehon_sys as sys;
+pub use prefix::Prefix;
 pub use refusal::{Place, Refusal};
 pub use route::{Found, Route, Run};
 pub use table::Table;
+pub use text::ParseError;

@@ -33,18 +33,50 @@ pub struct RouteList {
 }
 
 impl RouteList {
-    /// Takes words that make a valid list, three a route: value, length, port. Refuses 3, 8; per route 4, 5, 6, 7.
+    /// Takes words that make a valid list, three a route: value, length, port.
+    ///
+    /// # Errors
+    ///
+    /// - 3, [`Refusal::WrongSize`]: the words are no whole number of routes.
+    /// - 8, [`Refusal::TooManyRoutes`]: there are more than 4,096 routes.
+    ///
+    /// Then the first route that is wrong, which is the place, and of its faults the first:
+    ///
+    /// - 4, [`Refusal::LongPrefix`]: the length is above 32.
+    /// - 5, [`Refusal::SpareBits`]: the value has bits set past the length.
+    /// - 6, [`Refusal::WrongPort`]: the port is outside 1..4094.
+    /// - 7, [`Refusal::NotAbove`]: the route is not above the one before it.
     pub fn from_words(words: Vec<u32>) -> Result<RouteList, Refusal> {
         calls::list_check(&words).of_list()?;
         Ok(RouteList { words })
     }
 
-    /// Takes routes in list order. Refuses 8, then 7 for a route that is not above the one before it.
+    /// Takes routes in list order.
+    ///
+    /// # Errors
+    ///
+    /// - 8, [`Refusal::TooManyRoutes`]: there are more than 4,096 routes.
+    /// - 7, [`Refusal::NotAbove`]: a route, which is the place, is not above the one before it.
     pub fn from_routes(routes: &[Route]) -> Result<RouteList, Refusal> {
         RouteList::from_words(routes.iter().flat_map(|route| route.words()).collect())
     }
 
-    /// Reads a route file. Refuses 1, 2, 3; per route 8, 4, 3, 5, 6, 7.
+    /// Reads a route file.
+    ///
+    /// # Errors
+    ///
+    /// - 1, [`Refusal::ShortFile`]: there are under 5 bytes.
+    /// - 2, [`Refusal::WrongVersion`]: the version byte is not 1.
+    /// - 3, [`Refusal::WrongSize`]: the stated size is not that of the bytes that follow it.
+    ///
+    /// Then the first route that is wrong, whose first byte is the place, and of its faults the first:
+    ///
+    /// - 8, [`Refusal::TooManyRoutes`]: 4,096 routes stand before it.
+    /// - 4, [`Refusal::LongPrefix`]: the length is above 32.
+    /// - 3, [`Refusal::WrongSize`]: it runs past the end of the file.
+    /// - 5, [`Refusal::SpareBits`]: the address has bits set past the length.
+    /// - 6, [`Refusal::WrongPort`]: the port is outside 1..4094.
+    /// - 7, [`Refusal::NotAbove`]: the route is not above the one before it.
     pub fn read(file: &[u8]) -> Result<RouteList, Refusal> {
         // A route takes three bytes at least and three words, so as many words as bytes are room enough.
         let mut words = vec![0; file.len().min(ROUTES_LAST * ROUTE_WORDS)];

@@ -1,6 +1,7 @@
 //! The published refusals, with the places that they name and a text for whoever stands at the gateway.
 
 use crate::calls::Reply;
+use maftehon_sys as sys;
 use std::fmt;
 
 /// Where a refusal points.
@@ -20,26 +21,27 @@ pub enum Place {
 /// use maftehon::{Place, Refusal, RouteList};
 ///
 /// let refusal = RouteList::from_words(vec![0, 33, 1]).unwrap_err();
-/// assert_eq!(refusal, Refusal::LengthAbove32(Place::Route(0)));
+/// assert_eq!(refusal, Refusal::LongPrefix(Place::Route(0)));
 /// assert_eq!((refusal.number(), refusal.place()), (4, 0));
 /// assert_eq!(refusal.to_string(), "route 0: the prefix length is above 32 (refusal 4)");
 /// ```
 #[derive(Clone, Copy, PartialEq, Eq, Debug)]
+#[non_exhaustive]
 pub enum Refusal {
     /// 1: the file has under 5 bytes.
-    FileUnder5Bytes,
+    ShortFile,
     /// 2: the file's version byte is not 1.
-    VersionNot1,
-    /// 3: the stated size is not the bytes present, a route runs past the end, or a list has no whole routes.
-    SizeDiffers(Place),
+    WrongVersion,
+    /// 3: the stated size is not the bytes present, a route runs past the end, or a list is no whole number of routes.
+    WrongSize(Place),
     /// 4: a prefix length is above 32.
-    LengthAbove32(Place),
+    LongPrefix(Place),
     /// 5: bits are set past the prefix length.
-    BitsPastLength(Place),
+    SpareBits(Place),
     /// 6: a port is outside 1..4094.
-    PortOutside(Place),
+    WrongPort(Place),
     /// 7: a route is not above the one before it.
-    NotAboveBefore(Place),
+    NotAbove(Place),
     /// 8: more than 4,096 routes.
     TooManyRoutes(Place),
     /// 9: no room for what is to be written, or the table is full.
@@ -47,51 +49,51 @@ pub enum Refusal {
     /// 10: the withdrawn prefix is not held.
     NotHeld,
     /// 11: the table or the image is not in good order.
-    NotInGoodOrder,
+    NotInOrder,
     /// 12: the stride is not 1, 2 or 4.
-    StrideNot124,
+    WrongStride,
     /// 13: more than 8,193 runs.
     TooManyRuns,
 }
 
 impl Refusal {
-    /// The refusal with this published number at this place; none for 0, which means done.
-    fn of(number: u32, place: Place) -> Option<Refusal> {
-        Some(match number {
-            0 => return None,
-            1 => Refusal::FileUnder5Bytes,
-            2 => Refusal::VersionNot1,
-            3 => Refusal::SizeDiffers(place),
-            4 => Refusal::LengthAbove32(place),
-            5 => Refusal::BitsPastLength(place),
-            6 => Refusal::PortOutside(place),
-            7 => Refusal::NotAboveBefore(place),
-            8 => Refusal::TooManyRoutes(place),
-            9 => Refusal::NoRoom,
-            10 => Refusal::NotHeld,
-            11 => Refusal::NotInGoodOrder,
-            12 => Refusal::StrideNot124,
-            13 => Refusal::TooManyRuns,
-            _ => unreachable!("{number} is not one of the published refusals"),
-        })
+    /// The refusal with this published number, at this place if it is one that names a place. There is none for 0,
+    /// which means done, nor for a number that is not published.
+    pub fn of(number: u32, place: Place) -> Option<Refusal> {
+        let all = [
+            Refusal::ShortFile,
+            Refusal::WrongVersion,
+            Refusal::WrongSize(place),
+            Refusal::LongPrefix(place),
+            Refusal::SpareBits(place),
+            Refusal::WrongPort(place),
+            Refusal::NotAbove(place),
+            Refusal::TooManyRoutes(place),
+            Refusal::NoRoom,
+            Refusal::NotHeld,
+            Refusal::NotInOrder,
+            Refusal::WrongStride,
+            Refusal::TooManyRuns,
+        ];
+        all.into_iter().find(|refusal| refusal.number() == number)
     }
 
     /// The published number, 1 to 13.
     pub fn number(self) -> u32 {
         match self {
-            Refusal::FileUnder5Bytes => 1,
-            Refusal::VersionNot1 => 2,
-            Refusal::SizeDiffers(_) => 3,
-            Refusal::LengthAbove32(_) => 4,
-            Refusal::BitsPastLength(_) => 5,
-            Refusal::PortOutside(_) => 6,
-            Refusal::NotAboveBefore(_) => 7,
-            Refusal::TooManyRoutes(_) => 8,
-            Refusal::NoRoom => 9,
-            Refusal::NotHeld => 10,
-            Refusal::NotInGoodOrder => 11,
-            Refusal::StrideNot124 => 12,
-            Refusal::TooManyRuns => 13,
+            Refusal::ShortFile => sys::SHORT_FILE,
+            Refusal::WrongVersion => sys::WRONG_VERSION,
+            Refusal::WrongSize(_) => sys::WRONG_SIZE,
+            Refusal::LongPrefix(_) => sys::LONG_PREFIX,
+            Refusal::SpareBits(_) => sys::SPARE_BITS,
+            Refusal::WrongPort(_) => sys::WRONG_PORT,
+            Refusal::NotAbove(_) => sys::NOT_ABOVE,
+            Refusal::TooManyRoutes(_) => sys::TOO_MANY_ROUTES,
+            Refusal::NoRoom => sys::NO_ROOM,
+            Refusal::NotHeld => sys::NOT_HELD,
+            Refusal::NotInOrder => sys::NOT_IN_ORDER,
+            Refusal::WrongStride => sys::WRONG_STRIDE,
+            Refusal::TooManyRuns => sys::TOO_MANY_RUNS,
         }
     }
 
@@ -105,11 +107,11 @@ impl Refusal {
 
     fn pointed_at(self) -> Place {
         match self {
-            Refusal::SizeDiffers(place)
-            | Refusal::LengthAbove32(place)
-            | Refusal::BitsPastLength(place)
-            | Refusal::PortOutside(place)
-            | Refusal::NotAboveBefore(place)
+            Refusal::WrongSize(place)
+            | Refusal::LongPrefix(place)
+            | Refusal::SpareBits(place)
+            | Refusal::WrongPort(place)
+            | Refusal::NotAbove(place)
             | Refusal::TooManyRoutes(place) => place,
             _ => Place::Whole,
         }
@@ -117,19 +119,19 @@ impl Refusal {
 
     fn text(self) -> &'static str {
         match self {
-            Refusal::FileUnder5Bytes => "the file is shorter than the 5 bytes that every route file begins with",
-            Refusal::VersionNot1 => "this is no route file of version 1",
-            Refusal::SizeDiffers(Place::Byte(_)) => "the route runs past the end of the file",
-            Refusal::SizeDiffers(_) => "the size is not the stated one; the file or list may be cut off",
-            Refusal::LengthAbove32(_) => "the prefix length is above 32",
-            Refusal::BitsPastLength(_) => "the address has bits set past the prefix length",
-            Refusal::PortOutside(_) => "the port is outside 1 to 4094",
-            Refusal::NotAboveBefore(_) => "the route is not above the one before it; sort by address, then by length",
+            Refusal::ShortFile => "the file is shorter than the 5 bytes that every route file begins with",
+            Refusal::WrongVersion => "this is no route file of version 1",
+            Refusal::WrongSize(Place::Byte(_)) => "the route runs past the end of the file",
+            Refusal::WrongSize(_) => "the size is not the stated one; the file or list may be cut off",
+            Refusal::LongPrefix(_) => "the prefix length is above 32",
+            Refusal::SpareBits(_) => "the address has bits set past the prefix length",
+            Refusal::WrongPort(_) => "the port is outside 1 to 4094",
+            Refusal::NotAbove(_) => "the route is not above the one before it; sort by address, then by length",
             Refusal::TooManyRoutes(_) => "there are more than 4096 routes",
             Refusal::NoRoom => "there is no room left",
             Refusal::NotHeld => "the prefix to withdraw is not in the table",
-            Refusal::NotInGoodOrder => "the table or image is damaged; build it again from its list",
-            Refusal::StrideNot124 => "the stride is not 1, 2 or 4",
+            Refusal::NotInOrder => "the table or image is damaged; build it again from its list",
+            Refusal::WrongStride => "the stride is not 1, 2 or 4",
             Refusal::TooManyRuns => "there are more than 8193 runs",
         }
     }
@@ -151,7 +153,10 @@ impl std::error::Error for Refusal {}
 impl<const N: usize> Reply<N> {
     /// The words of `answer`, or the refusal with the place that it names in what was lent.
     fn result(self, place: Place) -> Result<[u32; N], Refusal> {
-        Refusal::of(self.number, place).map_or(Ok(self.answer), Err)
+        match self.number {
+            sys::DONE => Ok(self.answer),
+            number => Err(Refusal::of(number, place).expect("every number but 0 that is answered is published")),
+        }
     }
 
     /// Of a call on a file: no route begins at offset 0.
@@ -161,7 +166,8 @@ impl<const N: usize> Reply<N> {
 
     /// Of a call on a list: only 4 to 7 name a route, which may be number 0.
     pub(crate) fn of_list(self) -> Result<[u32; N], Refusal> {
-        self.result(if (4..=7).contains(&self.number) { Place::Route(self.answer[0]) } else { Place::Whole })
+        let names_a_route = (sys::LONG_PREFIX..=sys::NOT_ABOVE).contains(&self.number);
+        self.result(if names_a_route { Place::Route(self.answer[0]) } else { Place::Whole })
     }
 
     /// Of a call on one route or on a table.

@@ -1,6 +1,7 @@
 //! A route, a run of addresses, and what a lookup finds.
 
 use crate::calls;
+use crate::prefix::Prefix;
 use crate::refusal::Refusal;
 use std::fmt;
 use std::net::Ipv4Addr;
@@ -13,57 +14,69 @@ pub(crate) const RUN_WORDS: usize = 3;
 /// A prefix and the port that its addresses go to; always valid.
 ///
 /// ```
-/// use maftehon::{Refusal, Route};
+/// use maftehon::{ParseError, Route};
 /// use std::net::Ipv4Addr;
 ///
-/// let route = Route::new(Ipv4Addr::new(10, 1, 0, 0), 16, 9)?;
-/// assert_eq!(route.to_string(), "10.1.0.0/16 to port 9");
+/// let route: Route = "10.1.0.0/16 9".parse()?;
+/// assert_eq!(route, Route::new(Ipv4Addr::new(10, 1, 0, 0), 16, 9)?);
+/// assert_eq!(route.to_string(), "10.1.0.0/16 9");
 /// assert_eq!(Route::new(Ipv4Addr::new(10, 1, 0, 0), 8, 9).unwrap_err().number(), 5);
-/// # Ok::<(), Refusal>(())
+/// # Ok::<(), ParseError>(())
 /// ```
-#[derive(Clone, Copy, PartialEq, Eq, Debug)]
+#[derive(Clone, Copy, PartialEq, Eq, Hash, Debug)]
 pub struct Route {
-    value: u32,
-    length: u32,
-    port: u32,
+    prefix: Prefix,
+    port: u16,
 }
 
 impl Route {
-    /// Refuses 4 for a length above 32, 5 for bits set past the length, 6 for a port outside 1..4094.
+    /// The route of this prefix, by its address and its length, to this port.
+    ///
+    /// # Errors
+    ///
+    /// - 4, [`Refusal::LongPrefix`]: the length is above 32.
+    /// - 5, [`Refusal::SpareBits`]: the address has bits set past the length.
+    /// - 6, [`Refusal::WrongPort`]: the port is outside 1..4094.
     pub fn new(address: Ipv4Addr, length: u8, port: u16) -> Result<Route, Refusal> {
-        let words = [u32::from(address), u32::from(length), u32::from(port)];
+        Route::checked(address, u32::from(length), u32::from(port))
+    }
+
+    /// [`Route::new`] for a length and a port of any size.
+    pub(crate) fn checked(address: Ipv4Addr, length: u32, port: u32) -> Result<Route, Refusal> {
+        let words = [address.into(), length, port];
         calls::list_check(&words).of_whole()?;
         Ok(Route::of_words(&words))
     }
 
+    /// The prefix.
+    pub fn prefix(self) -> Prefix {
+        self.prefix
+    }
+
     /// The first address of the prefix.
     pub fn address(self) -> Ipv4Addr {
-        Ipv4Addr::from(self.value)
+        self.prefix.address()
     }
 
     /// The prefix length, 0..32.
     pub fn length(self) -> u8 {
-        self.length as u8
+        self.prefix.length()
     }
 
     /// The port, 1..4094.
     pub fn port(self) -> u16 {
-        self.port as u16
+        self.port
     }
 
     /// A route of a list that has been checked.
     pub(crate) fn of_words(words: &[u32]) -> Route {
-        Route { value: words[0], length: words[1], port: words[2] }
+        Route { prefix: Prefix::of_words(words[0], words[1]), port: words[2] as u16 }
     }
 
+    /// Value, length and port.
     pub(crate) fn words(self) -> [u32; ROUTE_WORDS] {
-        [self.value, self.length, self.port]
-    }
-}
-
-impl fmt::Display for Route {
-    fn fmt(&self, formatter: &mut fmt::Formatter) -> fmt::Result {
-        write!(formatter, "{}/{} to port {}", self.address(), self.length, self.port)
+        let [value, length] = self.prefix.words();
+        [value, length, self.port.into()]
     }
 }
 

@@ -2,6 +2,7 @@
 
 use crate::calls;
 use crate::list::{room_for_runs, RouteList, ROUTES_LAST};
+use crate::prefix::Prefix;
 use crate::refusal::Refusal;
 use crate::route::{Found, Route, Run, ROUTE_WORDS, RUN_WORDS};
 use std::net::Ipv4Addr;
@@ -16,16 +17,15 @@ const ROW_WORDS: usize = 5;
 /// use std::net::Ipv4Addr;
 ///
 /// let mut table = Table::with_capacity(2);
-/// table.announce(Route::new(Ipv4Addr::new(10, 0, 0, 0), 8, 7)?)?;
-/// table.announce(Route::new(Ipv4Addr::new(10, 1, 0, 0), 16, 9)?)?;
+/// let (floor, bay): (Route, Route) = ("10.0.0.0/8 7".parse()?, "10.1.0.0/16 9".parse()?);
+/// table.announce(floor)?;
+/// table.announce(bay)?;
 /// assert_eq!(table.lookup(Ipv4Addr::new(10, 1, 2, 3)).port, Some(9));
+/// assert_eq!(table.announce("0.0.0.0/0 1".parse()?), Err(Refusal::NoRoom));
 ///
-/// let full = table.announce(Route::new(Ipv4Addr::UNSPECIFIED, 0, 1)?);
-/// assert_eq!(full, Err(Refusal::NoRoom));
-///
-/// table.withdraw(Ipv4Addr::new(10, 1, 0, 0), 16)?;
+/// table.withdraw(bay.prefix())?;
 /// assert_eq!(table.lookup(Ipv4Addr::new(10, 1, 2, 3)).port, Some(7));
-/// # Ok::<(), Refusal>(())
+/// # Ok::<(), Box<dyn std::error::Error>>(())
 /// ```
 #[derive(Clone, PartialEq, Eq, Debug)]
 pub struct Table {
@@ -39,7 +39,11 @@ impl Table {
         Table { rows: vec![0; routes.min(ROUTES_LAST) * ROW_WORDS], n: 0 }
     }
 
-    /// The table of a list, with room for that many routes, at most 4,096. Refuses 9 where the list has more.
+    /// The table of a list, with room for that many routes, at most 4,096.
+    ///
+    /// # Errors
+    ///
+    /// - 9, [`Refusal::NoRoom`]: the list has more routes than that.
     pub fn build(list: &RouteList, capacity: usize) -> Result<Table, Refusal> {
         let mut table = Table::with_capacity(capacity);
         let [_, n] = calls::table_build(list.words(), &mut table.rows).of_list()?;
@@ -47,7 +51,11 @@ impl Table {
         Ok(table)
     }
 
-    /// Adds the route, or gives its prefix the new port. Refuses 9 for a new prefix in a full table.
+    /// Adds the route, or gives its prefix the new port.
+    ///
+    /// # Errors
+    ///
+    /// - 9, [`Refusal::NoRoom`]: the prefix is new and the table is full.
     pub fn announce(&mut self, route: Route) -> Result<(), Refusal> {
         let [value, length, port] = route.words();
         let [_, n] = calls::table_announce(&mut self.rows, self.n, value, length, port).of_whole()?;
@@ -55,9 +63,14 @@ impl Table {
         Ok(())
     }
 
-    /// Takes the prefix out. Refuses 4, 5 for no valid prefix, then 10 where it is not held.
-    pub fn withdraw(&mut self, address: Ipv4Addr, length: u8) -> Result<(), Refusal> {
-        let [_, n] = calls::table_withdraw(&mut self.rows, self.n, address.into(), u32::from(length)).of_whole()?;
+    /// Takes the route of the prefix out.
+    ///
+    /// # Errors
+    ///
+    /// - 10, [`Refusal::NotHeld`]: the table has no route of this prefix.
+    pub fn withdraw(&mut self, prefix: Prefix) -> Result<(), Refusal> {
+        let [value, length] = prefix.words();
+        let [_, n] = calls::table_withdraw(&mut self.rows, self.n, value, length).of_whole()?;
         self.n = n;
         Ok(())
     }

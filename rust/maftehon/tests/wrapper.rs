@@ -1,6 +1,6 @@
 //! The ordinary wrapper: what it gives, and the texts of its refusals.
 
-use maftehon::{Image, Place, Refusal, Route, RouteList, Stride, Table};
+use maftehon::{Image, Place, Prefix, Refusal, Route, RouteList, Stride, Table};
 use std::net::Ipv4Addr;
 
 /// The three routes of `examples/floor.routes`.
@@ -75,9 +75,32 @@ fn a_refused_update_changes_nothing() {
     let before = table.clone();
     let new = Route::new(Ipv4Addr::new(192, 0, 2, 0), 24, 5).expect("a valid route");
     assert_eq!(table.announce(new), Err(Refusal::NoRoom));
-    assert_eq!(table.withdraw(new.address(), new.length()), Err(Refusal::NotHeld));
-    assert_eq!(table.withdraw(new.address(), 33), Err(Refusal::LengthAbove32(Place::Whole)));
+    assert_eq!(table.withdraw(new.prefix()), Err(Refusal::NotHeld));
     assert_eq!(table, before);
+}
+
+#[test]
+fn a_prefix_and_a_route_are_refused_4_5_6_in_this_order() {
+    let address = Ipv4Addr::new(192, 0, 2, 1);
+    assert_eq!(Prefix::new(address, 33), Err(Refusal::LongPrefix(Place::Whole)));
+    assert_eq!(Prefix::new(address, 31), Err(Refusal::SpareBits(Place::Whole)));
+    assert_eq!(Route::new(address, 33, 0), Err(Refusal::LongPrefix(Place::Whole)));
+    assert_eq!(Route::new(address, 31, 0), Err(Refusal::SpareBits(Place::Whole)));
+    for port in [0, 4095, u16::MAX] {
+        assert_eq!(Route::new(address, 32, port), Err(Refusal::WrongPort(Place::Whole)));
+    }
+    let route = Route::new(address, 32, 4094).expect("a valid route");
+    assert_eq!(Ok(route.prefix()), Prefix::new(address, 32));
+    assert_eq!((route.address(), route.length(), route.port()), (address, 32, 4094));
+}
+
+#[test]
+fn prefixes_stand_in_the_order_of_a_list() {
+    let mut routes: Vec<Route> = floor().routes().collect();
+    routes.reverse();
+    assert_eq!(RouteList::from_routes(&routes), Err(Refusal::NotAbove(Place::Route(1))));
+    routes.sort_by_key(|route| route.prefix());
+    assert_eq!(RouteList::from_routes(&routes), Ok(floor()));
 }
 
 #[test]

@@ -2,9 +2,7 @@
 
 use crate::list::{check_above, list_of, routes_of, ROUTES_LAST};
 use crate::prefix::{check_length, Route};
-use crate::refusal::{
-    refuse, write_out, Answer, Refusal, FILE_UNDER_5_BYTES, SIZE_DIFFERS, TOO_MANY_ROUTES, VERSION_NOT_1,
-};
+use crate::refusal::{refuse, write_out, Answer, Refusal, SHORT_FILE, TOO_MANY_ROUTES, WRONG_SIZE, WRONG_VERSION};
 
 const VERSION: u8 = 1;
 /// The version byte and the four bytes of the stated size.
@@ -52,14 +50,14 @@ fn routes_of_file(file: &[u8]) -> Result<Vec<Route>, Refusal> {
 
 fn check_head(file: &[u8]) -> Result<(), Refusal> {
     if file.len() < HEAD_BYTES {
-        return refuse(FILE_UNDER_5_BYTES, 0);
+        return refuse(SHORT_FILE, 0);
     }
     if file[0] != VERSION {
-        return refuse(VERSION_NOT_1, 0);
+        return refuse(WRONG_VERSION, 0);
     }
     let stated = u32::from_be_bytes([file[1], file[2], file[3], file[4]]);
     if u64::from(stated) != (file.len() - HEAD_BYTES) as u64 {
-        return refuse(SIZE_DIFFERS, 0);
+        return refuse(WRONG_SIZE, 0);
     }
     Ok(())
 }
@@ -73,7 +71,7 @@ fn read_route(file: &[u8], at: usize) -> Result<(Route, usize), Refusal> {
     let port_at = at + 1 + prefix_bytes(length);
     let next = port_at + PORT_BYTES;
     if next > file.len() {
-        return refuse(SIZE_DIFFERS, place);
+        return refuse(WRONG_SIZE, place);
     }
     let value = value_of(&file[at + 1..port_at]);
     let port = u16::from_be_bytes([file[port_at], file[port_at + 1]]);

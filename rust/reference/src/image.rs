@@ -2,7 +2,7 @@
 
 use crate::list::routes_of;
 use crate::prefix::{plain_scan, Prefix, Route, NO_PORT, PORT_LAST, WIDTH};
-use crate::refusal::{check_room, refuse, write_out, Answer, Refusal, NOT_IN_GOOD_ORDER, STRIDE_NOT_1_2_4};
+use crate::refusal::{check_room, refuse, write_out, Answer, Refusal, NOT_IN_ORDER, WRONG_STRIDE};
 use std::collections::VecDeque;
 
 /// Words of a node: bitmap, offset, leaf base.
@@ -54,7 +54,7 @@ pub fn image_lookup(stride: u32, nodes: &[u32], ports: &[u16], address: u32) -> 
 
 fn check_stride(stride: u32) -> Result<(), Refusal> {
     if ![1, 2, 4].contains(&stride) {
-        return refuse(STRIDE_NOT_1_2_4, 0);
+        return refuse(WRONG_STRIDE, 0);
     }
     Ok(())
 }
@@ -128,7 +128,7 @@ fn search(stride: u32, nodes: &[u32], ports: &[u16], address: u32, nodes_read: &
         // A node that is wrong counts as read.
         *nodes_read += 1;
         if u64::from(bitmap) >= 1 << slot_count {
-            return refuse(NOT_IN_GOOD_ORDER, 0);
+            return refuse(NOT_IN_ORDER, 0);
         }
         let slot = slot_of(address, depth, stride);
         let leaves_before = (0..slot).filter(|before| is_leaf(bitmap, slot_count, *before)).count() as u64;
@@ -139,14 +139,14 @@ fn search(stride: u32, nodes: &[u32], ports: &[u16], address: u32, nodes_read: &
         number = number.plus(Distance(u64::from(offset) + non_leaves_before));
     }
     // A non-leaf at depth 32-s.
-    refuse(NOT_IN_GOOD_ORDER, 0)
+    refuse(NOT_IN_ORDER, 0)
 }
 
 /// The words of a node; 11 for a number of 0 or past the whole nodes lent.
 fn node(nodes: &[u32], number: NodeNumber) -> Result<[u32; NODE_WORDS], Refusal> {
     let whole_nodes = (nodes.len() / NODE_WORDS) as u64;
     if number.0 == 0 || number.0 > whole_nodes {
-        return refuse(NOT_IN_GOOD_ORDER, 0);
+        return refuse(NOT_IN_ORDER, 0);
     }
     let at = (number.0 - 1) as usize * NODE_WORDS;
     Ok([nodes[at], nodes[at + 1], nodes[at + 2]])
@@ -155,11 +155,11 @@ fn node(nodes: &[u32], number: NodeNumber) -> Result<[u32; NODE_WORDS], Refusal>
 /// The port of a leaf; 11 for a leaf number past the ports lent, or a port above 4094.
 fn port(ports: &[u16], leaf: LeafNumber) -> Result<u32, Refusal> {
     if leaf.0 >= ports.len() as u64 {
-        return refuse(NOT_IN_GOOD_ORDER, 0);
+        return refuse(NOT_IN_ORDER, 0);
     }
     let port = u32::from(ports[leaf.0 as usize]);
     if port > PORT_LAST {
-        return refuse(NOT_IN_GOOD_ORDER, 0);
+        return refuse(NOT_IN_ORDER, 0);
     }
     Ok(port)
 }

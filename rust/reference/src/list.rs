@@ -1,7 +1,7 @@
 //! The route list, its checks and its scan: rules, "Addresses, prefixes, the plain scan", "A route list".
 
 use crate::prefix::{plain_scan, Route};
-use crate::refusal::{refuse, Answer, Refusal, NOT_ABOVE_BEFORE, SIZE_DIFFERS, TOO_MANY_ROUTES};
+use crate::refusal::{refuse, Answer, Refusal, NOT_ABOVE, TOO_MANY_ROUTES, WRONG_SIZE};
 
 /// Words of a route in a list: value, length, port.
 pub(crate) const ROUTE_WORDS: usize = 3;
@@ -21,7 +21,7 @@ pub fn list_scan(list: &[u32], address: u32) -> Answer<2> {
 pub(crate) fn routes_of(list: &[u32]) -> Result<Vec<Route>, Refusal> {
     let words_of_routes = list.chunks_exact(ROUTE_WORDS);
     if !words_of_routes.remainder().is_empty() {
-        return refuse(SIZE_DIFFERS, 0);
+        return refuse(WRONG_SIZE, 0);
     }
     if words_of_routes.len() > ROUTES_LAST {
         return refuse(TOO_MANY_ROUTES, 0);
@@ -39,7 +39,7 @@ pub(crate) fn routes_of(list: &[u32]) -> Result<Vec<Route>, Refusal> {
 /// Refuses 7 where the route is not above the one before it.
 pub(crate) fn check_above(before: &[Route], route: Route, place: u32) -> Result<(), Refusal> {
     if before.last().is_some_and(|last| route.prefix <= last.prefix) {
-        return refuse(NOT_ABOVE_BEFORE, place);
+        return refuse(NOT_ABOVE, place);
     }
     Ok(())
 }

@@ -1,6 +1,6 @@
 //! Addresses, prefixes, routes and the plain scan: rules, "Addresses, prefixes, the plain scan".
 
-use crate::refusal::{refuse, Refusal, BITS_PAST_LENGTH, LENGTH_ABOVE_32, PORT_OUTSIDE};
+use crate::refusal::{refuse, Refusal, LONG_PREFIX, SPARE_BITS, WRONG_PORT};
 
 /// Bits of an address, and the longest prefix.
 pub const WIDTH: u32 = 32;
@@ -41,7 +41,7 @@ pub fn agree(a: u32, b: u32, count: u32) -> bool {
 
 pub(crate) fn check_length(length: u32, place: u32) -> Result<(), Refusal> {
     if length > WIDTH {
-        return refuse(LENGTH_ABOVE_32, place);
+        return refuse(LONG_PREFIX, place);
     }
     Ok(())
 }
@@ -50,11 +50,15 @@ impl Prefix {
     /// The prefix of length 0: the whole address space.
     pub const WHOLE: Prefix = Prefix { value: 0, length: 0 };
 
-    /// Refuses 4 for a length above 32, then 5 for bits past the length, both at `place`.
+    /// The prefix of this value and length.
+    ///
+    /// # Errors
+    ///
+    /// 4 for a length above 32, then 5 for bits past the length, both at `place`.
     pub fn checked(value: u32, length: u32, place: u32) -> Result<Prefix, Refusal> {
         check_length(length, place)?;
         if first_bits(value, length) << (WIDTH - length) != u64::from(value) {
-            return refuse(BITS_PAST_LENGTH, place);
+            return refuse(SPARE_BITS, place);
         }
         Ok(Prefix { value, length })
     }
@@ -96,11 +100,15 @@ impl Prefix {
 }
 
 impl Route {
-    /// Refuses 4, 5, then 6 for a port outside 1..4094, each at `place`.
+    /// The route of this prefix to this port.
+    ///
+    /// # Errors
+    ///
+    /// 4 and 5 for its prefix, then 6 for a port outside 1..4094, each at `place`.
     pub fn checked(value: u32, length: u32, port: u32, place: u32) -> Result<Route, Refusal> {
         let prefix = Prefix::checked(value, length, place)?;
         if !(PORT_FIRST..=PORT_LAST).contains(&port) {
-            return refuse(PORT_OUTSIDE, place);
+            return refuse(WRONG_PORT, place);
         }
         Ok(Route { prefix, port })
     }

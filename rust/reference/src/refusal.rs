@@ -1,18 +1,18 @@
 //! The published numbers and the shape of an answer: rules, "Numbers on the refusal lamp".
 
 pub const DONE: u32 = 0;
-pub const FILE_UNDER_5_BYTES: u32 = 1;
-pub const VERSION_NOT_1: u32 = 2;
-pub const SIZE_DIFFERS: u32 = 3;
-pub const LENGTH_ABOVE_32: u32 = 4;
-pub const BITS_PAST_LENGTH: u32 = 5;
-pub const PORT_OUTSIDE: u32 = 6;
-pub const NOT_ABOVE_BEFORE: u32 = 7;
+pub const SHORT_FILE: u32 = 1;
+pub const WRONG_VERSION: u32 = 2;
+pub const WRONG_SIZE: u32 = 3;
+pub const LONG_PREFIX: u32 = 4;
+pub const SPARE_BITS: u32 = 5;
+pub const WRONG_PORT: u32 = 6;
+pub const NOT_ABOVE: u32 = 7;
 pub const TOO_MANY_ROUTES: u32 = 8;
-pub const OUTPUT_TOO_SHORT: u32 = 9;
+pub const NO_ROOM: u32 = 9;
 pub const NOT_HELD: u32 = 10;
-pub const NOT_IN_GOOD_ORDER: u32 = 11;
-pub const STRIDE_NOT_1_2_4: u32 = 12;
+pub const NOT_IN_ORDER: u32 = 11;
+pub const WRONG_STRIDE: u32 = 12;
 pub const TOO_MANY_RUNS: u32 = 13;
 
 /// A refusal's number and its place.
@@ -54,7 +54,7 @@ pub(crate) fn refuse<T>(number: u32, place: u32) -> Result<T, Refusal> {
 /// Refuses 9 where `lent` has no room for `size` elements.
 pub(crate) fn check_room<T>(lent: &[T], size: usize) -> Result<(), Refusal> {
     if size > lent.len() {
-        return refuse(OUTPUT_TOO_SHORT, 0);
+        return refuse(NO_ROOM, 0);
     }
     Ok(())
 }

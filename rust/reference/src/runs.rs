@@ -3,7 +3,7 @@
 use crate::file::file_read;
 use crate::list::ROUTE_WORDS;
 use crate::listing::{list_runs, RUNS_LAST, RUN_WORDS};
-use crate::refusal::{DONE, OUTPUT_TOO_SHORT};
+use crate::refusal::{DONE, NO_ROOM};
 use std::net::Ipv4Addr;
 
 const INPUT_BYTES_LAST: usize = 1797;
@@ -16,7 +16,7 @@ pub fn runs_text(input: &[u8]) -> Vec<u8> {
 
 fn text(input: &[u8]) -> String {
     if input.len() > INPUT_BYTES_LAST {
-        return refused(OUTPUT_TOO_SHORT, 0);
+        return refused(NO_ROOM, 0);
     }
     // Room for 256 routes makes the reader itself refuse 9 at place 0 where a valid file has more.
     let mut list = [0; INPUT_ROUTES_LAST * ROUTE_WORDS];

@@ -2,7 +2,7 @@
 
 use crate::list::{list_of, routes_of, ROUTES_LAST};
 use crate::prefix::{agree, bit, Prefix, Route, NO_PORT, WIDTH};
-use crate::refusal::{refuse, write_out, Answer, Refusal, NOT_HELD, NOT_IN_GOOD_ORDER, OUTPUT_TOO_SHORT};
+use crate::refusal::{refuse, write_out, Answer, Refusal, NOT_HELD, NOT_IN_ORDER, NO_ROOM};
 use crate::trie::{add, trie_of, Trie};
 use std::collections::{BTreeMap, BTreeSet};
 
@@ -77,7 +77,7 @@ fn write_row(rows: &mut [u32], number: u32, words: [u32; ROW_WORDS]) {
 
 fn search(rows: &[u32], n: u32, address: u32, rows_read: &mut u32) -> Result<u32, Refusal> {
     if n > capacity(rows) {
-        return refuse(NOT_IN_GOOD_ORDER, 0);
+        return refuse(NOT_IN_ORDER, 0);
     }
     if n == 0 {
         return Ok(NO_PORT);
@@ -113,7 +113,7 @@ fn route_read(words: [u32; ROW_WORDS], n: u32, depth: u32, address: u32) -> Resu
     let route = Route::checked(value, length, port, 0);
     match route {
         Ok(route) if left < n && right < n && length >= depth && agree(value, address, depth) => Ok(route),
-        _ => refuse(NOT_IN_GOOD_ORDER, 0),
+        _ => refuse(NOT_IN_ORDER, 0),
     }
 }
 
@@ -121,7 +121,7 @@ fn route_read(words: [u32; ROW_WORDS], n: u32, depth: u32, address: u32) -> Resu
 /// row 0 are all the rows below n, each once, and make the trie of these routes; else 11.
 fn in_good_order(rows: &[u32], n: u32) -> Result<Table, Refusal> {
     if n > capacity(rows) {
-        return refuse(NOT_IN_GOOD_ORDER, 0);
+        return refuse(NOT_IN_ORDER, 0);
     }
     let table = valid_routes(rows, n).and_then(|routes| {
         let trie = trie_of(routes);
@@ -130,7 +130,7 @@ fn in_good_order(rows: &[u32], n: u32) -> Result<Table, Refusal> {
     // Each place reached is one of the trie's n places, so n of them are the whole trie and all of the rows.
     match table {
         Some(table) if table.row_of.len() == n as usize => Ok(table),
-        _ => refuse(NOT_IN_GOOD_ORDER, 0),
+        _ => refuse(NOT_IN_ORDER, 0),
     }
 }
 
@@ -189,7 +189,7 @@ fn announce(rows: &mut [u32], n: u32, route: Route) -> Result<[u32; 1], Refusal>
     let mut routes = routes_without(&trie, route.prefix);
     let is_new = routes.len() == trie.len();
     if is_new && n == capacity(rows) {
-        return refuse(OUTPUT_TOO_SHORT, 0);
+        return refuse(NO_ROOM, 0);
     }
     routes.push(route);
     let trie = trie_of(routes);
@@ -233,7 +233,7 @@ fn take_fallen(row_of: &mut BTreeMap<Prefix, u32>, trie: &Trie) -> u32 {
 /// What announcing the routes in list order into an empty table gives.
 fn build(routes: &[Route], rows: &mut [u32]) -> Result<[u32; 1], Refusal> {
     if routes.len() > capacity(rows) as usize {
-        return refuse(OUTPUT_TOO_SHORT, 0);
+        return refuse(NO_ROOM, 0);
     }
     let mut table = Table { trie: Trie::new(), row_of: BTreeMap::new() };
     for (n, route) in routes.iter().enumerate() {

@@ -22,6 +22,10 @@ pub enum Structure {
 
 impl Structure {
     /// The images at strides 1, 2 and 4, and the table, all built by the proved library.
+    ///
+    /// # Panics
+    ///
+    /// Where the list is not valid.
     pub fn all_of(list: &[u32]) -> Vec<Structure> {
         let mut all: Vec<Structure> = [1, 2, 4].map(|stride| Structure::image(list, stride)).into();
         let mut rows = vec![0; list.len() / 3 * 5];
@@ -113,6 +117,10 @@ impl Structure {
 }
 
 /// The runs of a list by the proved library, which are those of the reference.
+///
+/// # Panics
+///
+/// Where they are not.
 pub fn runs_of(list: &[u32]) -> Vec<Run> {
     let room = RUN_WORDS * (2 * list.len() / 3 + 1);
     let (mut runs, mut expected) = (vec![0; room], vec![0; room]);

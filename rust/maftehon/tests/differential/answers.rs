@@ -1,6 +1,6 @@
 //! `answer` is lent memory too: every call writes all of it and nothing beside it, done or refused.
 
-use maftehon::ffi::*;
+use maftehon_sys::*;
 
 const PATTERN: u32 = 0xDEAD_BEEF;
 const GUARD: usize = 7;

@@ -1,8 +1,25 @@
-//! The C boundary, as its headers `maftehon.h` and `maftehon_strides.h` declare it. [`crate::calls`] has the same calls
-//! on slices, which are safe.
+//! The C boundary of the route library, as its header `maftehon.h` declares it, and the archive linked. The package
+//! `maftehon` has the same calls on slices, which are safe.
 //!
 //! A pointer is valid for its size, aligned, and not null even where the size is 0; sizes count elements. `answer`
-//! receives the place first and then the results, and overlaps nothing else that is lent.
+//! receives the place first and then the results; it overlaps nothing else that is lent, and of the memories lent to be
+//! written none overlaps another.
+
+// The numbers that a call returns: 0, or a published refusal. `maftehon::Refusal` says when each is given.
+pub const DONE: u32 = 0;
+pub const SHORT_FILE: u32 = 1;
+pub const WRONG_VERSION: u32 = 2;
+pub const WRONG_SIZE: u32 = 3;
+pub const LONG_PREFIX: u32 = 4;
+pub const SPARE_BITS: u32 = 5;
+pub const WRONG_PORT: u32 = 6;
+pub const NOT_ABOVE: u32 = 7;
+pub const TOO_MANY_ROUTES: u32 = 8;
+pub const NO_ROOM: u32 = 9;
+pub const NOT_HELD: u32 = 10;
+pub const NOT_IN_ORDER: u32 = 11;
+pub const WRONG_STRIDE: u32 = 12;
+pub const TOO_MANY_RUNS: u32 = 13;
 
 unsafe extern "C" {
     pub fn mft_file_read(file: *const u8, file_size: usize, list: *mut u32, list_words: usize, answer: *mut u32)

@@ -1,9 +1,9 @@
 // The examples of the route file in the rules, run: one line `claim value` each. "done" comes with the count of routes or of
 // bytes, "refused" with the number and the place.
+use file_read::read_file;
+use file_write::write_file;
 use libc::STDOUT_FILENO;
-use reader::read_file;
 use routes::Answer;
-use writer::write_file;
 
 fn text(s: &[u8]) {
     io::write_all(STDOUT_FILENO, s);

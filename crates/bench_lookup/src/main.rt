@@ -1,13 +1,13 @@
 // Bench examples 1 to 7 of the rules on source document 004's Table I, run; that table damaged in each way that is refused; and
 // that table saved as a list. A line is `claim`, the lookup's number, port and rows read, and the number that the check answers.
-use cells::Row;
 use libc::STDOUT_FILENO;
 use routes::route_at;
-use rows::capacity_of;
-use rows::store_row;
-use save::save;
-use table::check;
-use table::lookup;
+use table_lookup::check;
+use table_lookup::lookup;
+use table_rows::capacity_of;
+use table_rows::store_row;
+use table_rules::Row;
+use table_save::save;
 
 // Stores row r, whose port is r+1.
 fn row(rows: &mut [u32], r: u32, value: u32, len: u32, left: u32, right: u32) {

@@ -2,10 +2,10 @@
 // are refused; a longer route below a shorter one that comes and goes; and one that the place of a withdrawn one is filled with.
 use libc::STDOUT_FILENO;
 use routes::Answer;
-use table::lookup;
-use update::announce;
-use update::build;
-use update::withdraw;
+use table_lookup::lookup;
+use table_update::announce;
+use table_update::build;
+use table_update::withdraw;
 
 // "rows 0..9 hold 100110, 00, 10010, 01, 10011, 11, 1000, 101, 1110, 1111": value, length, port, left row, right row; and two
 // rows that are free.

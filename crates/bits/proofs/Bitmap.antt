@@ -1,11 +1,11 @@
 -- Laws of the ones before a slot, over the number n of slots. Assumes nothing.
 use mathlib.Core.Path.{_≡_, sym, ap, _∙_}
 use Prim.Native.Nat.{ℕ, _+_, _-_, _*_, _/_, _%_, _^_, _≤_, _<_}
-use native.Mathlib.Nat.{div-one}
+use native.Mathlib.Nat.{div-one, mul-assoc, mul-add-div-right}
 use native.Mathlib.Omega.{arith}
 use lib.Arith.{digits-div}
-use lib.Count.{ones, ones-le, ones-step}
-use lib.Pow.{shr-lt, shr-shr}
+use lib.Count.{ones, ones-le, ones-step, ones-cat}
+use lib.Pow.{shr-lt, shr-shr, pow-pos, pow-add}
 use Rattle.bits.specs.Bitmap.{before, slotBit, onesBefore, zerosBefore}
 
 -- no more ones before slot j than slots
@@ -35,3 +35,13 @@ ones-before-push n bitmap bit j h l =
     let e : n + 1 - j ≡ 1 + (n - j) = omega arith in
     ap (λ (k : ℕ). ones ((bitmap * 2 + bit) / 2 ^ k)) e
     ∙ ap ones (sym (shr-shr (bitmap * 2 + bit) 1 (n - j)) ∙ ap (λ (x : ℕ). x / 2 ^ (n - j)) (digits-div bitmap {m = 2} h))
+
+-- a number put above m lower bits, cut j bits below its own
+pub ones-above : (c v m j : ℕ) → j ≤ m → v < 2 ^ m → ones ((c * 2 ^ m + v) / 2 ^ (m - j)) ≡ ones c + ones (v / 2 ^ (m - j))
+ones-above c v m j h l =
+    let e : j + (m - j) ≡ m = omega arith in
+    let p : 2 ^ m ≡ 2 ^ j * 2 ^ (m - j) = ap (λ (k : ℕ). 2 ^ k) (sym e) ∙ pow-add 2 j (m - j) in
+    let q : c * 2 ^ m ≡ c * 2 ^ j * 2 ^ (m - j) = ap (λ (x : ℕ). c * x) p ∙ sym (mul-assoc c (2 ^ j) (2 ^ (m - j))) in
+    ap (λ (x : ℕ). ones ((x + v) / 2 ^ (m - j))) q
+    ∙ ap ones (mul-add-div-right (pow-pos (m - j)) (c * 2 ^ j) v)
+    ∙ ones-cat j c (v / 2 ^ (m - j)) (shr-lt j (m - j) (rw e l))

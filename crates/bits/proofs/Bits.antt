@@ -11,9 +11,10 @@ use lib.ListN.{length, take, length-append}
 use lib.Pow.{shr-shr, pow-add, field, mod-mod-pow}
 use borrow.Author.Tests.{eq-eqb, ne-eqb, eqb-true, eqb-false}
 use Rattle.bits.specs.Bits.{Bits, bit, value, bits, prefixBits, same, begins}
-use Rattle.bits.specs.Prefix.{span, head, matches}
+use Rattle.bits.specs.Prefix.{span, head, matches, Valid}
 use Rattle.bits.specs.Theorems.{MatchesBegins}
-use Rattle.bits.proofs.Tests.{way, both}
+use Rattle.lists.proofs.Tests.{way, both}
+use Rattle.bits.proofs.Prefix.{first-valid}
 
 -- equality of bits, and of bit strings, as a test
 
@@ -230,3 +231,36 @@ bit-at [] (suc w) k (suc l) x b s e n =
 bit-at (c ∷ path) zero k (suc l) x b s e n = absurd (omega arith)
 bit-at (c ∷ path) (suc w) k (suc l) x b s e n =
     let t : take l (bits w x) ≡ path ++ (b ∷ s) = cc in bit-at path w k l x b s t (omega arith)
+
+pub begins-more : (p q a : Bits) → (begins q p ≡ true → length p ≤ length q) → begins p (q ++ a) ≡ begins p q
+begins-more [] q a h = refl
+begins-more (b ∷ p) [] a h = absurd (omega (arith, h refl))
+begins-more (b ∷ p) (c ∷ q) a h =
+    by (way (Bool·beq b c)) (begins-more p q a)
+  where
+    by : (Bool·beq b c ≡ true) ⊎ (Bool·beq b c ≡ false)
+        → ((begins q p ≡ true → length p ≤ length q) → begins p (q ++ a) ≡ begins p q)
+        → (Bool·beq b c && begins p (q ++ a)) ≡ (Bool·beq b c && begins p q)
+    by (inl t) ih =
+        let e : Bool·beq c b ≡ true = ap (λ (x : Bool). Bool·beq c x) (beq-eq b c t) ∙ beq-refl c in
+        rw t (ih (λ u. let k : suc (length p) ≤ suc (length q) = h (rw e u) in omega arith))
+    by (inr t) ih = rw t
+
+pub begins-take : (q z : Bits) (l : ℕ) → length q ≤ l → begins q (take l z) ≡ begins q z
+begins-take [] z l h = refl
+begins-take (b ∷ q) z zero h = absurd (omega arith)
+begins-take (b ∷ q) [] (suc l) h = refl
+begins-take (b ∷ q) (c ∷ z) (suc l) h = rw (begins-take q z l (omega arith))
+
+-- valid prefixes with the same bits are one
+pub valid-prefix-unique : (w v l v′ l′ : ℕ) → Valid w v l → Valid w v′ l′ → prefixBits w v l ≡ prefixBits w v′ l′
+    → (v ≡ v′) × (l ≡ l′)
+valid-prefix-unique w v l v′ l′ ok ok′ e = (value-is, u .0)
+  where
+    u : (l ≡ l′) × (head w l v ≡ head w l v′)
+    u = prefix-unique w v v′ l l′ (ok .short) (ok′ .short) (ok .fits) (ok′ .fits) e
+
+    value-is : v ≡ v′
+    value-is =
+        sym (first-valid w v l ok) ∙ ap (λ (x : ℕ). x * span w l) (u .1)
+        ∙ ap (λ (m : ℕ). head w m v′ * span w m) (u .0) ∙ first-valid w v′ l′ ok′

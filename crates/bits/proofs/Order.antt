@@ -10,7 +10,7 @@ use lib.Pow.{pow-add}
 use borrow.Author.Tests.{eq-eqb, ne-eqb, eqb-true, lt-ltb, le-ltb, ltb-true, ltb-false}
 use Rattle.bits.specs.Prefix.{span, head, Valid, matches, first, last, precedes}
 use Rattle.bits.specs.Theorems.{Ordered}
-use Rattle.bits.proofs.Tests.{way, both, either, test-no}
+use Rattle.lists.proofs.Tests.{way, both, either, test-no}
 use Rattle.bits.proofs.Prefix.{head-rest, span-pos, matches→within, within→matches}
 
 -- the order as a statement

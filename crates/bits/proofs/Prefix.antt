@@ -10,7 +10,7 @@ use lib.Pow.{pow-pos, pow-add, shr-shr, shr-lt}
 use borrow.Author.Tests.{eq-eqb, ne-eqb, eqb-true, eqb-false, le-leb, lt-leb, leb-true, leb-false}
 use Rattle.bits.specs.Prefix.{span, head, Valid, matches, first, last, within, middle}
 use Rattle.bits.specs.Theorems.{MatchesWithin, EndsOfValid, WholeMatches, NestOrApart, Halved, Halves}
-use Rattle.bits.proofs.Tests.{way, both, test-eq, test-no}
+use Rattle.lists.proofs.Tests.{way, both, test-eq, test-no, leb-same}
 
 -- spans and heads
 
@@ -197,3 +197,36 @@ halves w v l h k = record {
   both = halves-both w v l h k;
   apart = halves-apart w v l h k;
 }
+
+-- the first address of the place whose first d bits write h
+abbrev pub start : ℕ → ℕ → ℕ → ℕ
+start w d h = h * span w d
+
+-- an address by its first bits
+pub head-within : (w l a h : ℕ) → head w l a ≡ h → (start w l h ≤ a) × (a < start w l h + span w l)
+head-within w l a h e =
+    let p : head w l a * span w l ≡ start w l h = ap (λ (x : ℕ). x * span w l) e in
+    (omega (arith, head-rest w l a, p), omega (arith, head-rest w l a, p, mod-lt a (span-pos w l)))
+
+pub head-start : (w l h : ℕ) → head w l (start w l h) ≡ h
+head-start w l h = head-range w l h (start w l h) (omega arith) (omega (arith, span-pos w l))
+
+pub start-lt : (w l h : ℕ) → l ≤ w → h < 2 ^ l → start w l h + span w l ≤ 2 ^ w
+start-lt w l h k p =
+    let m : suc h * span w l ≤ 2 ^ l * span w l = mul-le-mul-right (span w l) p in
+    omega (arith, m, suc-mul h (span w l), span-whole w l k)
+
+-- the span of a length, by the spans s bits down
+pub span-deeper : (w d s : ℕ) → d + s ≤ w → span w d ≡ 2 ^ s * span w (d + s)
+span-deeper w d s h =
+    let e : w - d ≡ s + (w - (d + s)) = omega arith in
+    ap (λ (k : ℕ). 2 ^ k) e ∙ pow-add 2 s (w - (d + s))
+
+-- away from its ends, a prefix matches an address as it does the one before
+pub matches-same : (w v l x : ℕ) → (x ≡ first w v l → ⊥) → (x ≡ last w v l + 1 → ⊥) → matches w v l x ≡ matches w v l (x - 1)
+matches-same w v l x a b =
+    matches-within w v l x
+    ∙ ap₂ (λ (p q : Bool). p && q)
+    (leb-same (first w v l) x (first w v l) (x - 1) (λ h. omega arith) (λ h. omega arith))
+    (leb-same x (last w v l) (x - 1) (last w v l) (λ h. omega arith) (λ h. omega arith))
+    ∙ sym (matches-within w v l (x - 1))

@@ -38,3 +38,7 @@ abbrev pub begins : Bits → Bits → Bool
 begins [] a = true
 begins (b ∷ s) [] = false
 begins (b ∷ s) (c ∷ a) = Bool·beq b c && begins s a
+
+-- the bit of a number that has k bits after it
+abbrev pub bitBefore : ℕ → ℕ → Bool
+bitBefore x k = eqb (x / 2 ^ k % 2) 1

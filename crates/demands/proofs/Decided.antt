@@ -5,10 +5,10 @@ use mathlib.Core.List.{List}
 use Prim.Native.Nat.{ℕ, zero, suc, _+_, _-_, _/_}
 use lib.ListN.{length}
 use Rattle.routes.specs.Routes.{routeAt, routeCount}
-use Rattle.file.specs.File.{headSize}
-use Rattle.cells.specs.Words.{rowAt}
+use Rattle.file_rules.specs.File.{headSize}
+use Rattle.table_rows.specs.Words.{rowAt}
 use Rattle.routes.specs.declared.Route.{Route}
-use Rattle.cells.specs.Rows.{Mem}
+use Rattle.table_rules.specs.Rows.{Mem}
 use Rattle.demands.specs.Lamp.{Verdict, shows, whether, refuse, Decides}
 use Rattle.demands.specs.Checks.{routeChecks, eachRoute, listChecks, eachInFile, fileChecks, rowChecks, nodeChecks}
 use Rattle.demands.specs.Demands.{Demand1Decides}

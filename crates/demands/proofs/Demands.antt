@@ -8,27 +8,26 @@ use native.Mathlib.Omega.{arith}
 use lib.Dec.{eqb, leb}
 use borrow.Author.Tests.{eqb-true, eqb-false, leb-true}
 use Rattle.promise.specs.Over.{outcome}
-use Rattle.bits.proofs.Tests.{way}
+use Rattle.lists.proofs.Tests.{way}
 use Rattle.routes.specs.Routes.{routeAt, routeCount}
 use Rattle.routes.specs.Refusals.{mostRoutes, accepted}
 use Rattle.routes.specs.Check.{listCheck}
 use Rattle.routes.proofs.Check.{accepted-valid}
-use Rattle.file.specs.Theorems.{FileWidth}
-use Rattle.file.proofs.Trips.{read-written, write-read}
-use Rattle.cells.specs.Words.{capacity, rowAt, fiveWords}
-use Rattle.cells.proofs.Lookup.{lookup-is-scan}
-use Rattle.order.proofs.Words.{words-stores}
-use Rattle.update.specs.Calls.{builtFrom, buildInto}
-use Rattle.update.specs.History.{ran}
-use Rattle.update.proofs.Built.{built-lookup-is-scan}
-use Rattle.update.proofs.History.{history-is}
-use Rattle.breadth.specs.Lookup.{isStride}
-use Rattle.breadth.specs.Theorems.{Strided}
+use Rattle.file_rules.specs.File.{FileWidth}
+use Rattle.file_rules.proofs.Trips.{read-written, write-read}
+use Rattle.table_rows.specs.Words.{capacity, rowAt, fiveWords}
+use Rattle.table_rules.proofs.Lookup.{lookup-is-scan}
+use Rattle.table_rows.proofs.Words.{words-stores}
+use Rattle.table_update.specs.Calls.{builtFrom, buildInto}
+use Rattle.table_update.specs.History.{ran}
+use Rattle.table_update.proofs.Built.{built-lookup-is-scan}
+use Rattle.table_update.proofs.History.{history-is}
+use Rattle.image_rules.specs.Lookup.{isStride, Strided}
 use Rattle.image_build.specs.Build.{buildImage}
 use Rattle.image_build.proofs.Scanned.{built-is-scan}
-use Rattle.listing.specs.Runs.{runs}
-use Rattle.listing.proofs.Runs.{listing-unique, listing-exists}
-use Rattle.listing.proofs.Listing.{list-runs-done}
+use Rattle.runs_rules.specs.Runs.{runs}
+use Rattle.runs_rules.proofs.Runs.{listing-unique, listing-exists}
+use Rattle.runs_rules.proofs.Listing.{list-runs-done}
 use Rattle.table_runs.proofs.Tabled.{table-runs-done}
 use Rattle.demands.specs.Demands.{Demand1, Demand2, Demand3, emptyTable, heldAfter}
 use Rattle.demands.proofs.OfLists.{read-refuses, write-refuses, check-refuses, scan-refuses, list-runs-refuses}

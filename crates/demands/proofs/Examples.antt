@@ -3,7 +3,7 @@
 use mathlib.Core.Path.{_≡_, refl, ap, _∙_}
 use mathlib.Core.Bool.{true, false, _&&_}
 use mathlib.Core.List.{List, [], _∷_}
-use Prim.Native.Nat.{ℕ, _/_}
+use Prim.Native.Nat.{ℕ, _-_, _/_, _^_}
 use lib.Dec.{leb}
 use lib.Count.{ones, onesIn}
 use lib.ListN.{length, replicate}
@@ -12,23 +12,26 @@ use Rattle.bits.specs.Bits.{Bits, bits}
 use Rattle.trie.specs.Scan.{longest, plainScan}
 use Rattle.trie.specs.Routes.{Route as BitRoute}
 use Rattle.routes.specs.Refusals.{accepted}
-use Rattle.routes.specs.Routes.{route, listOf}
+use Rattle.routes.specs.Routes.{route, routeAt}
+use Rattle.lists.specs.Numbered.{listOf}
 use Rattle.routes.specs.Check.{faultAt, firstFault, routesCheck, listCheck}
 use Rattle.routes.specs.declared.Route.{Route}
-use Rattle.cells.specs.Words.{rowAt, storeRow, fiveWords}
-use Rattle.cells.specs.Announce.{heldAt}
-use Rattle.cells.specs.Check.{seen, noRows, seenAt, isGood}
+use Rattle.table_rows.specs.Words.{rowAt, storeRow, fiveWords}
+use Rattle.table_rules.specs.Announce.{heldAt}
+use Rattle.table_rules.specs.Check.{seen, noRows, seenAt, isGood}
 use Rattle.demands.proofs.Steps.{seen-row, best-none, best-own, best-below, cut-on, cut-last, relink-on, relink-here}
-use Rattle.cells.specs.Withdraw.{noRoute, cut, relink, closeGap, withdrawn}
-use Rattle.cells.specs.Lookup.{walk, lookupIn}
-use Rattle.update.specs.Calls.{withdrawIn, withdrawInto}
-use Rattle.breadth.specs.Image.{someLonger, imagePaths, imageNodes, imagePorts}
-use Rattle.breadth.specs.Lookup.{isStride, lookupWords}
-use Rattle.breadth.specs.Lookup as breadth
+use Rattle.table_rules.specs.Withdraw.{noRoute, cut, relink, closeGap, withdrawn}
+use Rattle.table_rules.specs.Lookup.{walk, lookupIn}
+use Rattle.table_update.specs.Calls.{withdrawIn, withdrawInto}
+use Rattle.image_rules.specs.Image.{someLonger, imagePaths, imageNodes, imagePorts}
+use Rattle.image_rules.specs.Lookup.{isStride, lookupWords}
+use Rattle.image_rules.specs.Lookup as breadth
 use Rattle.image_build.specs.Build.{left, doneBuild, listed, buildImage}
-use Rattle.listing.specs.Runs.{runWords}
-use Rattle.listing.proofs.Listing.{example-12}
-use Rattle.demands.specs.Examples.{address, row, tableI, seven, afterwards, imageWords, foundIn, StarredHold}
+use Rattle.runs_rules.specs.Boundaries.{insert, boundaries, runsBy}
+use Rattle.runs_rules.specs.Listing as runs
+use Rattle.runs_rules.specs.Runs.{run, runWords}
+use Rattle.runs_rules.proofs.Listing.{listed-boundaries}
+use Rattle.demands.specs.Examples.{address, row, tableI, seven, twoHalves, afterwards, imageWords, foundIn, StarredHold}
 
 -- the route that a row of the rules' table holds
 abbrev holding : ℕ → ℕ → ℕ → Route
@@ -152,12 +155,17 @@ pub eleven : buildImage 32 4 [] (replicate 3 0) (replicate 16 0) ≡ left (doneB
 unfolding someLonger listOf bits longest plainScan listCheck routesCheck firstFault
 eleven = image-is 4 [] (65535 ∷ 0 ∷ 0 ∷ []) (replicate 16 0) [] refl refl refl refl refl (replicate 3 0) (replicate 16 0) refl
 
+three-runs : runs.listed 32 (routeAt twoHalves) 2
+    ≡ run 0 (address 10 8 - 1) 0 ∷ run (address 10 8) (address 11 8 - 1) 7 ∷ run (address 11 8) (2 ^ 32 - 1) 0 ∷ []
+unfolding boundaries insert runsBy listOf longest plainScan
+three-runs = listed-boundaries 32 (routeAt twoHalves) 2
+
 pub starred-hold : StarredHold
 unfolding walk lookupIn breadth.walk lookupWords ones onesIn rowAt storeRow
 starred-hold =
     let eight = ap afterwards withdrawal-is in
     let nine-found = ap (foundIn 1 (address 5 4)) nine in
-    let twelve = ap runWords example-12 in (
+    let twelve = ap runWords three-runs in (
       refl,
       (
         refl,

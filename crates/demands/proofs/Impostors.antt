@@ -6,33 +6,32 @@ use Prim.Native.Nat.{ℕ, zero, suc, _-_, _^_}
 use native.Mathlib.Omega.{arith}
 use lib.Dec.{ltb}
 use borrow.Author.Tests.{ltb-true}
-use Rattle.bits.proofs.Tests.{both}
+use Rattle.lists.proofs.Tests.{both}
 use lib.Count.{ones, onesIn}
 use lib.ListN.{getD, replicate}
 use Rattle.promise.specs.Over.{Outcome, outcome}
 use Rattle.routes.specs.Refusals.{accepted}
-use Rattle.routes.specs.Routes.{routeAt}
+use Rattle.routes.specs.Routes.{routeAt, Words}
 use Rattle.routes.specs.Check.{firstFault, routesCheck, listCheck}
 use Rattle.routes.specs.Scan.{scanOf, listScan}
-use Rattle.routes.specs.Theorems.{Words}
 use Rattle.routes.specs.declared.Answer.{Answer}
-use Rattle.file.specs.Theorems.{emptyFile}
-use Rattle.file.proofs.Trips.{empty-file}
-use Rattle.cells.specs.Words.{capacity, rowAt, storeRow, fiveWords}
-use Rattle.cells.specs.Lookup.{found, walk, lookupIn}
-use Rattle.cells.specs.Announce.{heldAt, sink, announced}
-use Rattle.cells.specs.Withdraw.{withdrawn}
-use Rattle.cells.specs.Check.{seen, noRows, seenAt, isGood}
-use Rattle.cells.specs.Save.{saveInto}
-use Rattle.cells.specs.declared.Found.{Found}
-use Rattle.cells.proofs.Lookup.{lookup-is-scan}
-use Rattle.update.specs.Calls.{announceIn, announceInto, withdrawIn, withdrawInto, buildInto}
-use Rattle.breadth.specs.Lookup as breadth
-use Rattle.breadth.specs.Lookup.{Looked, answered, lookupWords}
+use Rattle.file_rules.specs.Theorems.{emptyFile}
+use Rattle.file_rules.proofs.Trips.{empty-file}
+use Rattle.table_rows.specs.Words.{capacity, rowAt, storeRow, fiveWords}
+use Rattle.table_rules.specs.Lookup.{found, walk, lookupIn}
+use Rattle.table_rules.specs.Announce.{heldAt, sink, announced}
+use Rattle.table_rules.specs.Withdraw.{withdrawn}
+use Rattle.table_rules.specs.Check.{seen, noRows, seenAt, isGood}
+use Rattle.table_rules.specs.Save.{saveInto}
+use Rattle.table_rules.specs.declared.Found.{Found}
+use Rattle.table_rules.proofs.Lookup.{lookup-is-scan}
+use Rattle.table_update.specs.Calls.{announceIn, announceInto, withdrawIn, withdrawInto, buildInto}
+use Rattle.image_rules.specs.Lookup as breadth
+use Rattle.image_rules.specs.Lookup.{Looked, answered, lookupWords}
 use Rattle.image_build.specs.Build.{Left}
-use Rattle.listing.specs.Runs.{Run, run, Lists}
-use Rattle.listing.specs.Listing.{writeRuns}
-use Rattle.listing.proofs.Listing.{listed-lists, listed-none, list-runs-done}
+use Rattle.runs_rules.specs.Runs.{Run, run, Lists}
+use Rattle.runs_rules.specs.Listing.{writeRuns}
+use Rattle.runs_rules.proofs.Listing.{listed-lists, listed-none, list-runs-done}
 use Rattle.table_runs.specs.TableRuns.{tableRoutes, tableRuns}
 use Rattle.demands.specs.Impostors.{TableCall, ImageCall, announcing, withdrawing, lookingUp, seeking, ImpostorsStopped, EachAccepts, RowsReadArePath, NodesReadArePassed}
 use Rattle.demands.proofs.Steps.{seen-row}

@@ -13,9 +13,9 @@ use Rattle.bits.specs.Bitmap.{slotBit}
 use Rattle.routes.specs.Refusals.{noRoom, notInOrder, wrongStride, lastPort}
 use Rattle.routes.specs.Check.{listCheck}
 use Rattle.routes.specs.declared.Answer.{Answer}
-use Rattle.breadth.specs.Node.{nodeCount, isNode, bitmapOf}
-use Rattle.breadth.specs.Image.{imagePaths, imageNodes, imagePorts}
-use Rattle.breadth.specs.Lookup.{Looked, answered, refusedAt, slotAt, leafOf, childAt, leafAt, walk, isStride, lookupWords}
+use Rattle.image_rules.specs.Node.{nodeCount, isNode, bitmapOf}
+use Rattle.image_rules.specs.Image.{imagePaths, imageNodes, imagePorts}
+use Rattle.image_rules.specs.Lookup.{Looked, answered, refusedAt, slotAt, leafOf, childAt, leafAt, walk, isStride, lookupWords}
 use Rattle.image_build.specs.Build.{Left, left, refusedBuild, doneBuild, listed, imageInto, buildImage}
 use Rattle.demands.specs.Lamp.{shows, done}
 use Rattle.demands.specs.Checks.{imageChecks, nodeChecks, imageLookupChecks}

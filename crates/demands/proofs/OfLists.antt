@@ -13,11 +13,11 @@ use Rattle.routes.specs.Routes.{routeAt, routeCount, routeWords}
 use Rattle.routes.specs.Check.{listCheck}
 use Rattle.routes.specs.Scan.{scanOf, listScan}
 use Rattle.routes.specs.declared.Answer.{Answer}
-use Rattle.file.specs.File.{fileRoute, fileOf}
-use Rattle.file.specs.Calls.{checkedThen, listOfRoutes, readFile, writeFile}
-use Rattle.file.proofs.InOrder.{length-in-order}
-use Rattle.listing.specs.Runs.{Run, runWords}
-use Rattle.listing.specs.Listing.{listed, mostRuns, writeRuns, listRuns}
+use Rattle.file_rules.specs.File.{fileRoute, fileOf}
+use Rattle.file_rules.specs.Calls.{checkedThen, listOfRoutes, readFile, writeFile}
+use Rattle.file_rules.proofs.InOrder.{length-in-order}
+use Rattle.runs_rules.specs.Runs.{Run, runWords}
+use Rattle.runs_rules.specs.Listing.{listed, mostRuns, writeRuns, listRuns}
 use Rattle.demands.specs.Lamp.{shows, done}
 use Rattle.demands.specs.Checks.{listChecks, roomFor, readChecks, writeChecks, runsChecks, listRunsChecks}
 use Rattle.demands.specs.Demands.{Refuses, RefusesOnly}

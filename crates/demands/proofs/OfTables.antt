@@ -9,28 +9,28 @@ use lib.Dec.{eqb, leb, ltb}
 use lib.ListN.{length}
 use borrow.Author.Tests.{ne-eqb, eqb-true, eqb-false, leb-true, ltb-true, ltb-false}
 use Rattle.promise.specs.Over.{Outcome, outcome, over}
-use Rattle.bits.specs.Bits.{prefixBits}
+use Rattle.bits.specs.Bits.{prefixBits, bitBefore}
 use Rattle.bits.specs.Prefix.{span, Valid, clear}
 use Rattle.trie.specs.Routes.{Routes}
 use Rattle.routes.specs.Refusals.{longPrefix, spareBits, wrongPort, noRoom, notHeld, notInOrder, refused, accepted}
-use Rattle.routes.specs.Routes.{routeAt, routeCount}
+use Rattle.routes.specs.Routes.{routeAt, routeCount, wordsOf}
 use Rattle.routes.specs.Check.{isPort, prefixFault}
 use Rattle.routes.specs.declared.Answer.{Answer}
 use Rattle.routes.specs.declared.Route.{Route}
-use Rattle.cells.specs.Rows.{Mem, child}
-use Rattle.cells.specs.Words.{capacity, rowAt, storeRow, fiveWords}
-use Rattle.cells.specs.Holds.{GoodFor, GoodOrder}
-use Rattle.cells.specs.Check.{isGood}
-use Rattle.cells.specs.Save.{wordsOf, saved, saveInto}
-use Rattle.cells.specs.Announce.{isHeld}
-use Rattle.cells.specs.Withdraw.{withdrawn}
-use Rattle.cells.specs.Lookup.{wrongRow, endsAt, betterOf, bitBefore, found, lost, walk, lookupIn}
-use Rattle.cells.specs.declared.Found.{Found}
-use Rattle.cells.proofs.Table.{held-is}
-use Rattle.order.proofs.Good.{check-is-good}
-use Rattle.table.specs.Good.{tableCheck}
-use Rattle.update.specs.Calls.{leaves, announcedWords, announceIn, announceInto, prefixOnly, withdrawIn, withdrawInto, builtFrom, buildInto}
-use Rattle.listing.specs.Listing.{listed, writeRuns}
+use Rattle.table_rules.specs.Rows.{Mem, child}
+use Rattle.table_rows.specs.Words.{capacity, rowAt, storeRow, fiveWords}
+use Rattle.table_rules.specs.Holds.{GoodFor, GoodOrder}
+use Rattle.table_rules.specs.Check.{isGood}
+use Rattle.table_rules.specs.Save.{saved, saveInto}
+use Rattle.table_rules.specs.Announce.{isHeld}
+use Rattle.table_rules.specs.Withdraw.{withdrawn}
+use Rattle.table_rules.specs.Lookup.{wrongRow, endsAt, betterOf, found, lost, walk, lookupIn}
+use Rattle.table_rules.specs.declared.Found.{Found}
+use Rattle.table_rules.proofs.Table.{held-is}
+use Rattle.table_rules.proofs.Good.{check-is-good}
+use Rattle.table_lookup.specs.Good.{tableCheck}
+use Rattle.table_update.specs.Calls.{leaves, announcedWords, announceIn, announceInto, prefixOnly, withdrawIn, withdrawInto, builtFrom, buildInto}
+use Rattle.runs_rules.specs.Listing.{listed, writeRuns}
 use Rattle.table_runs.specs.TableRuns.{tableRoutes, tableRuns}
 use Rattle.demands.specs.Lamp.{Verdict, shows, done, refuse}
 use Rattle.demands.specs.Checks.{prefixChecks, roomFor, orderChecks, NotHeld, announceChecks, withdrawChecks, buildChecks, saveChecks, rowChecks, lookupChecks, runsChecks, tableRunsChecks}

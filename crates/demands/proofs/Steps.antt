@@ -6,13 +6,14 @@ use mathlib.Core.List.{List}
 use Prim.Native.Nat.{ℕ, suc, _-_}
 use lib.Dec.{eqb, ltb}
 use Rattle.routes.specs.declared.Route.{Route}
-use Rattle.cells.specs.Rows.{Mem, child, routeOf, withRoute, withChild}
-use Rattle.cells.specs.Words.{rowAt, storeRow, fiveWords}
-use Rattle.cells.specs.Lookup.{wrongRow, bitBefore}
-use Rattle.cells.specs.Announce.{isSame}
-use Rattle.cells.specs.Check.{noRows, seenJoin, pathOn, seenAt}
-use Rattle.cells.specs.Withdraw.{noRoute, orRoute, firstRoute, bestAt, bestChild, isLast, cut, relink}
-use Rattle.cells.specs.declared.Seen.{Seen}
+use Rattle.table_rules.specs.Rows.{Mem, child, routeOf, withRoute, withChild}
+use Rattle.table_rows.specs.Words.{rowAt, storeRow, fiveWords}
+use Rattle.table_rules.specs.Lookup.{wrongRow}
+use Rattle.bits.specs.Bits.{bitBefore}
+use Rattle.table_rules.specs.Announce.{isSame}
+use Rattle.table_rules.specs.Check.{noRows, seenJoin, pathOn, seenAt}
+use Rattle.table_rules.specs.Withdraw.{noRoute, orRoute, firstRoute, bestAt, bestChild, isLast, cut, relink}
+use Rattle.table_rules.specs.declared.Seen.{Seen}
 
 -- the best of a subtree, and what the check has seen of it
 module _ (w : ℕ) (M : Mem) where

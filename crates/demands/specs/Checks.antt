@@ -5,24 +5,24 @@ use mathlib.Core.Bool.{true, false}
 use mathlib.Core.List.{List}
 use Prim.Native.Nat.{ℕ, zero, suc, _+_, _-_, _*_, _/_, _%_, _^_, _≤_, _<_}
 use lib.ListN.{length, getD}
-use Rattle.bits.specs.Bits.{prefixBits}
+use Rattle.bits.specs.Bits.{prefixBits, bitBefore}
 use Rattle.bits.specs.Prefix.{clear, precedes}
 use Rattle.bits.specs.Bitmap.{slotBit}
 use Rattle.trie.specs.Routes.{Routes, Route as BitRoute}
 use Rattle.routes.specs.Refusals.{shortFile, wrongVersion, wrongSize, longPrefix, spareBits, wrongPort, notAbove, tooManyRoutes, noRoom, notHeld, notInOrder, wrongStride, tooManyRuns, mostRoutes, lastPort}
 use Rattle.routes.specs.Routes.{routeAt, routeCount}
 use Rattle.routes.specs.declared.Route.{Route}
-use Rattle.file.specs.File.{version, headSize, statedSize, sizeFor, lenAt, readAt, placeOf, fileRoute, fileOf}
-use Rattle.cells.specs.Rows.{Mem, child}
-use Rattle.cells.specs.Words.{capacity, rowAt}
-use Rattle.cells.specs.Holds.{GoodFor, GoodOrder}
-use Rattle.cells.specs.Lookup.{wrongRow, endsAt, bitBefore}
-use Rattle.breadth.specs.Node.{nodeCount, bitmapOf}
-use Rattle.breadth.specs.Lookup.{slotAt, leafOf, childAt}
-use Rattle.breadth.specs.Image.{imageNodes, imagePorts}
+use Rattle.file_rules.specs.File.{version, headSize, statedSize, sizeFor, lenAt, readAt, placeOf, fileRoute, fileOf}
+use Rattle.table_rules.specs.Rows.{Mem, child}
+use Rattle.table_rows.specs.Words.{capacity, rowAt}
+use Rattle.table_rules.specs.Holds.{GoodFor, GoodOrder}
+use Rattle.table_rules.specs.Lookup.{wrongRow, endsAt}
+use Rattle.image_rules.specs.Node.{nodeCount, bitmapOf}
+use Rattle.image_rules.specs.Lookup.{slotAt, leafOf, childAt}
+use Rattle.image_rules.specs.Image.{imageNodes, imagePorts}
 use Rattle.image_build.specs.Build as build
-use Rattle.listing.specs.Runs.{Run}
-use Rattle.listing.specs.Listing.{listed, mostRuns}
+use Rattle.runs_rules.specs.Runs.{Run}
+use Rattle.runs_rules.specs.Listing.{listed, mostRuns}
 use Rattle.table_runs.specs.TableRuns.{tableRoutes}
 use Rattle.demands.specs.Lamp.{Verdict, shows, done, whether, refuse}
 

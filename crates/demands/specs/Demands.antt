@@ -10,28 +10,26 @@ use Rattle.trie.specs.Routes.{Routes}
 use Rattle.trie.specs.Scan.{scan}
 use Rattle.trie.specs.Trie.{reads}
 use Rattle.routes.specs.Refusals.{accepted}
-use Rattle.routes.specs.Routes.{routeAt, routeCount}
+use Rattle.routes.specs.Routes.{routeAt, routeCount, Words}
 use Rattle.routes.specs.Check.{listCheck}
 use Rattle.routes.specs.Scan.{scanOf, listScan}
-use Rattle.routes.specs.Theorems.{Words}
 use Rattle.routes.specs.declared.Answer.{Answer}
 use Rattle.routes.specs.declared.Route.{Route}
-use Rattle.file.specs.Bytes.{Bytes}
-use Rattle.file.specs.Calls.{readFile, writeFile}
-use Rattle.cells.specs.Words.{capacity, rowAt, fiveWords}
-use Rattle.cells.specs.Holds.{GoodFor}
-use Rattle.cells.specs.Lookup.{found, lookupIn}
-use Rattle.cells.specs.Save.{saveInto}
-use Rattle.table.specs.Good.{tableCheck}
-use Rattle.update.specs.Calls.{announceInto, withdrawInto, buildInto}
-use Rattle.update.specs.History.{Call, Table, ran, lastPort}
-use Rattle.update.specs.Theorems.{AllFit}
-use Rattle.breadth.specs.Image.{passed}
-use Rattle.breadth.specs.Lookup.{answered, lookupWords}
+use Rattle.file_rules.specs.Bytes.{Bytes}
+use Rattle.file_rules.specs.Calls.{readFile, writeFile}
+use Rattle.table_rows.specs.Words.{capacity, rowAt, fiveWords}
+use Rattle.table_rules.specs.Holds.{GoodFor}
+use Rattle.table_rules.specs.Lookup.{found, lookupIn}
+use Rattle.table_rules.specs.Save.{saveInto}
+use Rattle.table_lookup.specs.Good.{tableCheck}
+use Rattle.table_update.specs.Calls.{announceInto, withdrawInto, buildInto}
+use Rattle.table_update.specs.History.{Call, Table, ran, lastPort, AllFit}
+use Rattle.image_rules.specs.Image.{passed}
+use Rattle.image_rules.specs.Lookup.{answered, lookupWords}
 use Rattle.image_build.specs.Build as build
 use Rattle.image_build.specs.Build.{Left, buildImage}
-use Rattle.listing.specs.Runs.{Run, Lists, runWords}
-use Rattle.listing.specs.Listing.{listRuns}
+use Rattle.runs_rules.specs.Runs.{Run, Lists, runWords}
+use Rattle.runs_rules.specs.Listing.{listRuns}
 use Rattle.table_runs.specs.TableRuns.{tableRuns}
 use Rattle.demands.specs.Lamp.{Verdict, done, Lamp, Decides}
 use Rattle.demands.specs.Checks.{listChecks, readChecks, writeChecks, orderChecks, announceChecks, withdrawChecks, buildChecks, saveChecks, lookupChecks, imageChecks, imageLookupChecks, listRunsChecks, tableRunsChecks}

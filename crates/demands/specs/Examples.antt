@@ -1,20 +1,19 @@
 -- Defines the starred bench examples as one table: rules, "Bench examples (a star marks those also proved)". Assumes nothing.
 use mathlib.Core.Path.{_≡_}
 use mathlib.Core.List.{List, [], _∷_, _++_}
-use Prim.Native.Nat.{ℕ, _-_, _*_, _^_}
+use Prim.Native.Nat.{ℕ, _-_, _*_, _^_, _+_}
 use lib.ListN.{replicate}
 use Rattle.promise.specs.Over.{Outcome}
 use Rattle.routes.specs.Routes.{routeAt}
 use Rattle.routes.specs.declared.Answer.{Answer}
-use Rattle.cells.specs.Words.{capacity, rowAt, fiveWords}
-use Rattle.cells.specs.Lookup.{lookupIn}
-use Rattle.cells.specs.declared.Found.{Found}
-use Rattle.update.specs.Calls.{withdrawInto}
-use Rattle.breadth.specs.Lookup.{Looked, lookupWords}
+use Rattle.table_rows.specs.Words.{capacity, rowAt, fiveWords}
+use Rattle.table_rules.specs.Lookup.{lookupIn}
+use Rattle.table_rules.specs.declared.Found.{Found}
+use Rattle.table_update.specs.Calls.{withdrawInto}
+use Rattle.image_rules.specs.Lookup.{Looked, lookupWords}
 use Rattle.image_build.specs.Build.{Left, buildImage}
-use Rattle.listing.specs.Runs.{runWords}
-use Rattle.listing.specs.Listing.{listed}
-use Rattle.listing.specs.Theorems.{twoHalves}
+use Rattle.runs_rules.specs.Runs.{runWords, runs}
+use Rattle.runs_rules.specs.Listing.{listed}
 
 -- an example: what the definitions give, and what the rules print
 pub record Example : Type 0 where
@@ -77,6 +76,10 @@ abbrev pub foundIn : ℕ → ℕ → Left → List ℕ
 foundIn s a x =
     let y : Looked = lookupWords 32 s (x .nodes) (x .ports) a in
     y .number ∷ y .port ∷ y .reads ∷ []
+
+-- "10.0.0.0/9 and 10.128.0.0/9, both port 7: three runs"
+abbrev pub twoHalves : List ℕ
+twoHalves = (10 * 2 ^ 24) ∷ 9 ∷ 7 ∷ (10 * 2 ^ 24 + 2 ^ 23) ∷ 9 ∷ 7 ∷ []
 
 abbrev pub starred : List Example
 starred =

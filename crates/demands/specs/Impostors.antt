@@ -7,23 +7,22 @@ use Rattle.promise.specs.Over.{Outcome}
 use Rattle.bits.specs.Bits.{bits}
 use Rattle.trie.specs.Routes.{Routes}
 use Rattle.trie.specs.Trie.{reads}
-use Rattle.routes.specs.Routes.{route}
+use Rattle.routes.specs.Routes.{route, Words}
 use Rattle.routes.specs.Check.{listCheck}
 use Rattle.routes.specs.Scan.{listScan}
-use Rattle.routes.specs.Theorems.{Words}
 use Rattle.routes.specs.declared.Answer.{Answer}
-use Rattle.file.specs.Calls.{readFile, writeFile}
-use Rattle.cells.specs.Words.{capacity, rowAt, fiveWords}
-use Rattle.cells.specs.Holds.{GoodFor}
-use Rattle.cells.specs.Lookup.{lookupIn}
-use Rattle.cells.specs.Save.{saveInto}
-use Rattle.cells.specs.declared.Found.{Found}
-use Rattle.table.specs.Good.{tableCheck}
-use Rattle.update.specs.Calls.{announceInto, withdrawInto, buildInto}
-use Rattle.breadth.specs.Image.{passed}
-use Rattle.breadth.specs.Lookup.{Looked, lookupWords}
+use Rattle.file_rules.specs.Calls.{readFile, writeFile}
+use Rattle.table_rows.specs.Words.{capacity, rowAt, fiveWords}
+use Rattle.table_rules.specs.Holds.{GoodFor}
+use Rattle.table_rules.specs.Lookup.{lookupIn}
+use Rattle.table_rules.specs.Save.{saveInto}
+use Rattle.table_rules.specs.declared.Found.{Found}
+use Rattle.table_lookup.specs.Good.{tableCheck}
+use Rattle.table_update.specs.Calls.{announceInto, withdrawInto, buildInto}
+use Rattle.image_rules.specs.Image.{passed}
+use Rattle.image_rules.specs.Lookup.{Looked, lookupWords}
 use Rattle.image_build.specs.Build.{listed, buildImage}
-use Rattle.listing.specs.Listing.{listRuns}
+use Rattle.runs_rules.specs.Listing.{listRuns}
 use Rattle.table_runs.specs.TableRuns.{tableRuns}
 
 -- what a call on a table, or on an image, is handed; every number is a word of 32 bits

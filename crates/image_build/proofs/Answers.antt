@@ -9,17 +9,15 @@ use lib.ListN.{length}
 use borrow.Author.Tests.{eq-eqb, ne-eqb, le-leb, lt-leb}
 use Rattle.promise.specs.Over.{over}
 use Rattle.routes.specs.Refusals.{noRoom, wrongStride}
-use Rattle.routes.specs.Routes.{routeAt, routeCount, ValidList}
+use Rattle.routes.specs.Routes.{routeAt, routeCount, ValidList, Words}
 use Rattle.routes.specs.Check.{listCheck}
-use Rattle.routes.specs.Theorems.{Words}
 use Rattle.routes.specs.declared.Answer.{Answer}
 use Rattle.routes.proofs.Check.{accepted-valid}
-use Rattle.breadth.specs.Node.{nodeSize}
-use Rattle.breadth.specs.Image.{imagePaths, imageNodes, imagePorts}
-use Rattle.breadth.specs.Lookup.{isStride}
-use Rattle.breadth.specs.Theorems.{Strided}
-use Rattle.stretch.specs.Count.{nodesCount}
-use Rattle.stretch.proofs.Readied.{sizes}
+use Rattle.image_rules.specs.Node.{nodeSize}
+use Rattle.image_rules.specs.Image.{imagePaths, imageNodes, imagePorts}
+use Rattle.image_rules.specs.Lookup.{isStride, Strided}
+use Rattle.image_stretch.specs.Count.{nodesCount}
+use Rattle.image_stretch.proofs.Readied.{sizes}
 use Rattle.image_build.specs.declared.Built.{Built}
 use Rattle.image_build.specs.Build.{left, refusedBuild, doneBuild, listed, imageInto, buildImage}
 use Rattle.image_build.specs.Needs.{mostNodes, Roomy}

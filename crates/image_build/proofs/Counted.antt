@@ -8,7 +8,7 @@ use Rattle.bits.specs.Prefix.{matches}
 use Rattle.prefix.specs.Prefixes.{prefix}
 use Rattle.prefix.specs.declared.Prefix.{Prefix}
 use Rattle.routes.specs.declared.Route.{Route}
-use Rattle.stretch.specs.Count.{nodeAt, nodesAt, sumOf}
+use Rattle.image_stretch.specs.Count.{nodeAt, nodesAt, sumOf}
 
 -- a stride of at most four bits leaves levels
 pub levels-some : (s : ℕ) → 0 < s → s ≤ 4 → 1 ≤ 32 / s

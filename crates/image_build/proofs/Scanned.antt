@@ -8,14 +8,14 @@ use native.Mathlib.Omega.{arith}
 use lib.Dec.{eqb, leb}
 use lib.ListN.{length}
 use borrow.Author.Tests.{eqb-true, eqb-false}
-use Rattle.bits.proofs.Tests.{way}
+use Rattle.lists.proofs.Tests.{way}
 use Rattle.promise.specs.Over.{over}
 use Rattle.routes.specs.Routes.{routeAt, routeCount}
 use Rattle.routes.specs.Check.{listCheck}
 use Rattle.routes.proofs.Check.{accepted-valid}
-use Rattle.breadth.specs.Image.{imageNodes, imagePorts}
-use Rattle.breadth.specs.Lookup.{isStride, lookupWords}
-use Rattle.breadth.proofs.Listed.{lookup-is-list-scan}
+use Rattle.image_rules.specs.Image.{imageNodes, imagePorts}
+use Rattle.image_rules.specs.Lookup.{isStride, lookupWords}
+use Rattle.image_rules.proofs.Listed.{lookup-is-list-scan}
 use Rattle.image_build.specs.Build.{listed, buildImage}
 use Rattle.image_build.specs.Theorems.{BuiltIsScan, RefusalWritesNothing}
 

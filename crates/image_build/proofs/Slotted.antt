@@ -7,11 +7,11 @@ use Rattle.bits.specs.Prefix.{precedes}
 use Rattle.prefix.specs.Prefixes.{prefix}
 use Rattle.prefix.specs.declared.Prefix.{Prefix}
 use Rattle.routes.specs.declared.Route.{Route}
-use Rattle.breadth.specs.Breadth.{Slot, leaf, nonLeaf}
-use Rattle.stretch.specs.declared.Stretch.{Stretch}
-use Rattle.stretch.specs.declared.Filled.{Filled}
-use Rattle.stretch.specs.Stretches.{stretch, past, lastFrom, ahead, under, slotStretch, goesOn, leafPort, slotIn, addressOf, slotAddress, slotAt}
-use Rattle.stretch.specs.Memory.{filled, filledBy}
+use Rattle.image_rules.specs.Breadth.{Slot, leaf, nonLeaf}
+use Rattle.image_stretch.specs.declared.Stretch.{Stretch}
+use Rattle.image_stretch.specs.declared.Filled.{Filled}
+use Rattle.image_stretch.specs.Stretches.{stretch, past, lastFrom, ahead, under, slotStretch, goesOn, leafPort, slotIn, addressOf, slotAddress, slotAt}
+use Rattle.image_stretch.specs.Memory.{filled, filledBy}
 
 -- the order's test, as the code calls it
 pub precedes-found : (v l v′ l′ : ℕ) (p : Prefix) (t c : Bool) → p ≡ prefix v l → t ≡ precedes (p .value) (p .len) v′ l′ → t ≡ c → precedes v l v′ l′ ≡ c

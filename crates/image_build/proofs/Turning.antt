@@ -5,12 +5,12 @@ use Prim.Native.Nat.{ℕ, _+_, _-_, _*_, _≤_}
 use native.Mathlib.Omega.{arith}
 use lib.ListN.{length}
 use lib.Seq.{sets}
-use Rattle.breadth.specs.Flat.{flat}
-use Rattle.breadth.specs.Node.{nodeWords, offset}
-use Rattle.breadth.specs.Breadth.{Slot, bitmap, children, leafPorts}
-use Rattle.stretch.specs.declared.Stretch.{Stretch}
-use Rattle.stretch.specs.declared.Filled.{Filled}
-use Rattle.stretch.specs.Memory.{pending, used, filled, turnNodes, Okay}
+use Rattle.lists.specs.Flat.{flat}
+use Rattle.image_rules.specs.Node.{nodeWords, offset}
+use Rattle.image_rules.specs.Breadth.{Slot, bitmap, children, leafPorts}
+use Rattle.image_stretch.specs.declared.Stretch.{Stretch}
+use Rattle.image_stretch.specs.declared.Filled.{Filled}
+use Rattle.image_stretch.specs.Memory.{pending, used, filled, turnNodes, Okay}
 
 module _ (S : Stretch → List (Slot Stretch)) where
   -- what a node's slots rely on, for the node as it was read

@@ -9,16 +9,16 @@ use lib.Seq.{sets, length-sets}
 use Rattle.promise.specs.Over.{over}
 use Rattle.routes.specs.Routes.{routeAt}
 use Rattle.routes.specs.declared.Route.{Route}
-use Rattle.breadth.specs.Node.{nodeSize}
-use Rattle.breadth.specs.Breadth.{levels, treeWords, treePorts}
-use Rattle.breadth.specs.Image.{imageNodes, imagePorts, routesOf}
-use Rattle.breadth.specs.Theorems.{Strided}
-use Rattle.stretch.specs.declared.Stretch.{Stretch}
-use Rattle.stretch.specs.Stretches.{stretchSlots, rootOf}
-use Rattle.stretch.specs.Count.{nodesCount}
-use Rattle.stretch.specs.Memory.{pending, Ready}
-use Rattle.stretch.proofs.Trees.{stretches-image}
-use Rattle.stretch.proofs.Readied.{sizes, ready, root-again, over-root}
+use Rattle.image_rules.specs.Node.{nodeSize}
+use Rattle.image_rules.specs.Breadth.{levels, treeWords, treePorts}
+use Rattle.image_rules.specs.Image.{imageNodes, imagePorts, routesOf}
+use Rattle.image_rules.specs.Lookup.{Strided}
+use Rattle.image_stretch.specs.declared.Stretch.{Stretch}
+use Rattle.image_stretch.specs.Stretches.{stretchSlots, rootOf}
+use Rattle.image_stretch.specs.Count.{nodesCount}
+use Rattle.image_stretch.specs.Memory.{pending, Ready}
+use Rattle.image_stretch.proofs.Trees.{stretches-image}
+use Rattle.image_stretch.proofs.Readied.{sizes, ready, root-again, over-root}
 use Rattle.image_build.specs.Needs.{mostNodes, Roomy}
 
 -- the ports are few

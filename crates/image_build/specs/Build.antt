@@ -10,8 +10,8 @@ use Rattle.trie.specs.Routes.{Route}
 use Rattle.routes.specs.Refusals.{noRoom, wrongStride}
 use Rattle.routes.specs.Routes.{routeAt, routeCount}
 use Rattle.routes.specs.Check.{listCheck}
-use Rattle.breadth.specs.Image.{imagePaths, imageNodes, imagePorts, routesOf}
-use Rattle.breadth.specs.Lookup.{isStride}
+use Rattle.image_rules.specs.Image.{imagePaths, imageNodes, imagePorts, routesOf}
+use Rattle.image_rules.specs.Lookup.{isStride}
 use Rattle.image_build.specs.declared.Built.{Built}
 
 -- what a build answers, and what it leaves in the two memories that it was lent to write

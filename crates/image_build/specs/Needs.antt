@@ -5,11 +5,11 @@ use mathlib.Core.List.{List}
 use Prim.Native.Nat.{ℕ, _+_, _-_, _*_, _^_, _≤_, _<_}
 use lib.ListN.{length}
 use Rattle.routes.specs.Routes.{routeAt, ValidList}
-use Rattle.breadth.specs.Lookup.{isStride}
-use Rattle.breadth.specs.Node.{nodeSize}
-use Rattle.stretch.specs.Count.{nodesCount}
-use Rattle.stretch.specs.Stretches.{halfWord}
-use Rattle.stretch.specs.declared.Stretch.{Stretch}
+use Rattle.image_rules.specs.Lookup.{isStride}
+use Rattle.image_rules.specs.Node.{nodeSize}
+use Rattle.image_stretch.specs.Count.{nodesCount}
+use Rattle.image_stretch.specs.Stretches.{halfWord}
+use Rattle.image_stretch.specs.declared.Stretch.{Stretch}
 
 -- the root, and for each of 4,096 routes the nodes at 31 depths below it: what is counted fits a word
 abbrev pub mostNodes : ℕ

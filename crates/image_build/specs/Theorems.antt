@@ -3,12 +3,10 @@ use mathlib.Core.Path.{_≡_}
 use mathlib.Core.List.{List, []}
 use Prim.Native.Nat.{ℕ, _+_, _/_, _^_, _<_}
 use Rattle.bits.specs.Bits.{bits}
-use Rattle.routes.specs.Routes.{routeAt, routeCount}
+use Rattle.routes.specs.Routes.{routeAt, routeCount, Words}
 use Rattle.routes.specs.Scan.{scanOf}
-use Rattle.routes.specs.Theorems.{Words}
-use Rattle.breadth.specs.Image.{passed}
-use Rattle.breadth.specs.Lookup.{answered, lookupWords}
-use Rattle.breadth.specs.Theorems.{Strided}
+use Rattle.image_rules.specs.Image.{passed}
+use Rattle.image_rules.specs.Lookup.{answered, lookupWords, Strided}
 use Rattle.image_build.specs.Build.{listed, buildImage}
 
 -- after a build that is done, every address gets the plain scan's port of the list, and the nodes read are the non-leaf slots passed

@@ -3,7 +3,7 @@ ghost use mathlib.Core.Path.{_≡_};
 ghost use Prim.Native.Nat.{_-_, _*_, _/_, _<_, _≤_};
 ghost use lib.ListN.{length};
 ghost use Rattle.routes.specs.Routes.{routeAt};
-ghost use Rattle.stretch.specs.Count.{nodeAt, nodesAt, nodesCount};
+ghost use Rattle.image_stretch.specs.Count.{nodeAt, nodesAt, nodesCount};
 ghost use Rattle.image_build.specs.Needs.{mostNodes};
 use prefix::Prefix;
 

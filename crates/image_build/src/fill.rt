@@ -8,20 +8,20 @@ ghost use Rattle.promise.specs.Over.{over};
 ghost use Rattle.bits.specs.Prefix.{span};
 ghost use Rattle.prefix.specs.Prefixes.{prefix};
 ghost use Rattle.routes.specs.Routes.{routeAt};
-ghost use Rattle.breadth.specs.Flat.{flat};
-ghost use Rattle.breadth.specs.Node.{nodeWords, offset};
-ghost use Rattle.breadth.specs.Breadth.{childOf, portOf, bitmap, children, leafPorts, levels, treeWords, treePorts};
-ghost use Rattle.breadth.specs.Image.{imageNodes, imagePorts, routesOf};
-ghost use Rattle.stretch.specs.Stretches.{stretch, halfWord, slotIn, addressOf, slotAddress, stretchSlots, rootOf};
-ghost use Rattle.stretch.specs.Memory.{pending, pendingAt, used, filled, filledBy, turnNodes, Okay, Ready};
+ghost use Rattle.lists.specs.Flat.{flat};
+ghost use Rattle.image_rules.specs.Node.{nodeWords, offset};
+ghost use Rattle.image_rules.specs.Breadth.{childOf, portOf, bitmap, children, leafPorts, levels, treeWords, treePorts};
+ghost use Rattle.image_rules.specs.Image.{imageNodes, imagePorts, routesOf};
+ghost use Rattle.image_stretch.specs.Stretches.{stretch, halfWord, slotIn, addressOf, slotAddress, stretchSlots, rootOf};
+ghost use Rattle.image_stretch.specs.Memory.{pending, pendingAt, used, filled, filledBy, turnNodes, Okay, Ready};
 ghost use Rattle.image_build.specs.Needs.{Sound, Slots, Roomy};
 use crate::search::goes_on;
 use crate::search::leaf_port;
 use crate::search::slot_stretch;
+use image_stretch::Filled;
+use image_stretch::Stretch;
+use image_stretch::Used;
 use prefix::Prefix;
-use stretch::Filled;
-use stretch::Stretch;
-use stretch::Used;
 
 // A node still to do, in the three words of node number at + 1.
 fn put_stretch(nodes: &mut [u32], at: usize, x: Stretch)

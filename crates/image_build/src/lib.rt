@@ -1,7 +1,7 @@
 // Building the image of a route list into lent memory, which is all the memory that it uses.
 ghost use mathlib.Core.Path.{_≡_};
 ghost use Prim.Native.Nat.{_^_, _<_, _≤_};
-ghost use Rattle.breadth.specs.Lookup.{isStride};
+ghost use Rattle.image_rules.specs.Lookup.{isStride};
 ghost use Rattle.image_build.specs.Build.{left, refusedBuild, doneBuild, buildImage};
 use count::count_nodes;
 use fill::write_image;

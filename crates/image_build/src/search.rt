@@ -5,10 +5,10 @@ ghost use Prim.Native.Nat.{_+_, _-_, _*_, _<_, _≤_};
 ghost use lib.ListN.{length};
 ghost use Rattle.bits.specs.Prefix.{matches};
 ghost use Rattle.routes.specs.Routes.{routeAt};
-ghost use Rattle.stretch.specs.Stretches.{past, halfWord, carried, lastFrom, ahead, under, slotStretch, goesOn, leafPort};
+ghost use Rattle.image_stretch.specs.Stretches.{past, halfWord, carried, lastFrom, ahead, under, slotStretch, goesOn, leafPort};
 ghost use Rattle.image_build.specs.Needs.{Sound};
+use image_stretch::Stretch;
 use prefix::Prefix;
-use stretch::Stretch;
 
 // The first route of lo..hi that does not stand before the prefix; hi if all do.
 fn first_from(list: &[u32], place: Prefix, lo: usize, hi: usize) -> usize

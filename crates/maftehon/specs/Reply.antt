@@ -4,8 +4,8 @@ use mathlib.Core.List.{List, [], _∷_}
 use Prim.Native.Nat.{ℕ}
 use Rattle.promise.specs.Over.{Outcome, outcome}
 use Rattle.routes.specs.declared.Answer.{Answer}
-use Rattle.cells.specs.declared.Found.{Found}
-use Rattle.breadth.specs.Lookup.{Looked}
+use Rattle.table_rules.specs.declared.Found.{Found}
+use Rattle.image_rules.specs.Lookup.{Looked}
 use Rattle.image_build.specs.Build.{Left}
 use Rattle.image_build.specs.declared.Built.{Built}
 

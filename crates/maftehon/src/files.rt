@@ -1,11 +1,11 @@
 // The route file.
 ghost use mathlib.Core.Path.{_≡_};
 ghost use Rattle.promise.specs.Over.{outcome};
-ghost use Rattle.file.specs.Calls.{readFile, writeFile};
+ghost use Rattle.file_rules.specs.Calls.{readFile, writeFile};
 ghost use Rattle.maftehon.specs.Reply.{reply, replied};
 use crate::replies::counted;
-use reader::read_file;
-use writer::write_file;
+use file_read::read_file;
+use file_write::write_file;
 
 #[no_mangle]
 pub extern "C" fn mft_file_read(file: &[u8], list: &mut [u32], answer: &mut [u32; 2]) -> u32

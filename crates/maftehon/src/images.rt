@@ -1,6 +1,6 @@
-// The image: its build, its lookup, and the lookups with the stride a constant, which the header of additions declares.
+// The image: its build, its lookup, and the lookups with the stride a constant.
 ghost use mathlib.Core.Path.{_≡_};
-ghost use Rattle.breadth.specs.Lookup.{lookupWords};
+ghost use Rattle.image_rules.specs.Lookup.{lookupWords};
 ghost use Rattle.image_build.specs.Build.{buildImage};
 ghost use Rattle.maftehon.specs.Reply.{reply, foundNode, imaged, repliedImage};
 use crate::replies::built;
@@ -29,7 +29,7 @@ pub extern "C" fn mft_image_lookup(
 ) -> u32
     ensures { λ r. ⌜ reply r (now (answer .exit)) ≡ foundNode (lookupWords 32 stride (now (nodes .entry)) (now (ports .entry)) address) ⌝ }
 {
-    let found = image::lookup(stride, nodes, ports, address);
+    let found = image_lookup::lookup(stride, nodes, ports, address);
     looked(found.number, found.port, found.reads, answer)
 }
 
@@ -42,7 +42,7 @@ pub extern "C" fn mft_image_lookup_1(
 ) -> u32
     ensures { λ r. ⌜ reply r (now (answer .exit)) ≡ foundNode (lookupWords 32 1 (now (nodes .entry)) (now (ports .entry)) address) ⌝ }
 {
-    let found = image::lookup_1(nodes, ports, address);
+    let found = image_lookup::lookup_1(nodes, ports, address);
     looked(found.number, found.port, found.reads, answer)
 }
 
@@ -55,7 +55,7 @@ pub extern "C" fn mft_image_lookup_2(
 ) -> u32
     ensures { λ r. ⌜ reply r (now (answer .exit)) ≡ foundNode (lookupWords 32 2 (now (nodes .entry)) (now (ports .entry)) address) ⌝ }
 {
-    let found = image::lookup_2(nodes, ports, address);
+    let found = image_lookup::lookup_2(nodes, ports, address);
     looked(found.number, found.port, found.reads, answer)
 }
 
@@ -68,6 +68,6 @@ pub extern "C" fn mft_image_lookup_4(
 ) -> u32
     ensures { λ r. ⌜ reply r (now (answer .exit)) ≡ foundNode (lookupWords 32 4 (now (nodes .entry)) (now (ports .entry)) address) ⌝ }
 {
-    let found = image::lookup_4(nodes, ports, address);
+    let found = image_lookup::lookup_4(nodes, ports, address);
     looked(found.number, found.port, found.reads, answer)
 }

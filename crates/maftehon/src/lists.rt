@@ -3,13 +3,13 @@ ghost use mathlib.Core.Path.{_≡_};
 ghost use Rattle.promise.specs.Over.{outcome};
 ghost use Rattle.routes.specs.Check.{listCheck};
 ghost use Rattle.routes.specs.Scan.{listScan};
-ghost use Rattle.listing.specs.Listing.{listRuns};
+ghost use Rattle.runs_rules.specs.Listing.{listRuns};
 ghost use Rattle.maftehon.specs.Reply.{reply, placed, counted, replied};
 use crate::replies::counted;
 use crate::replies::placed;
+use list_runs::list_runs;
 use routes::check_list;
 use routes::scan_list;
-use sweep::list_runs;
 
 #[no_mangle]
 pub extern "C" fn mft_list_check(list: &[u32], answer: &mut [u32; 1]) -> u32

@@ -2,31 +2,31 @@
 ghost use mathlib.Core.Path.{_≡_};
 ghost use Rattle.promise.specs.Over.{outcome};
 ghost use Rattle.routes.specs.Routes.{route};
-ghost use Rattle.cells.specs.Words.{capacity, rowAt, fiveWords};
-ghost use Rattle.cells.specs.Lookup.{lookupIn};
-ghost use Rattle.cells.specs.Save.{saveInto};
-ghost use Rattle.table.specs.Good.{tableCheck};
-ghost use Rattle.update.specs.Calls.{announceInto, withdrawInto, buildInto};
+ghost use Rattle.table_rows.specs.Words.{capacity, rowAt, fiveWords};
+ghost use Rattle.table_rules.specs.Lookup.{lookupIn};
+ghost use Rattle.table_rules.specs.Save.{saveInto};
+ghost use Rattle.table_lookup.specs.Good.{tableCheck};
+ghost use Rattle.table_update.specs.Calls.{announceInto, withdrawInto, buildInto};
 ghost use Rattle.table_runs.specs.TableRuns.{tableRuns};
 ghost use Rattle.maftehon.specs.Reply.{reply, placed, foundRow, replied};
 use crate::replies::counted;
 use crate::replies::looked;
 use crate::replies::placed;
-use save::save;
 use table_runs::table_runs;
+use table_save::save;
 
 #[no_mangle]
 pub extern "C" fn mft_table_check(rows: &[u32], n: u32, answer: &mut [u32; 1]) -> u32
     ensures { λ r. ⌜ reply r (now (answer .exit)) ≡ placed (tableCheck 32 (capacity (now (rows .entry))) (rowAt (now (rows .entry))) n) ⌝ }
 {
-    placed(table::check(rows, n), answer)
+    placed(table_lookup::check(rows, n), answer)
 }
 
 #[no_mangle]
 pub extern "C" fn mft_table_lookup(rows: &[u32], n: u32, address: u32, answer: &mut [u32; 3]) -> u32
     ensures { λ r. ⌜ reply r (now (answer .exit)) ≡ foundRow (lookupIn 32 (capacity (now (rows .entry))) (rowAt (now (rows .entry))) n address) ⌝ }
 {
-    let found = table::lookup(rows, n, address);
+    let found = table_lookup::lookup(rows, n, address);
     looked(found.number, found.port, found.reads, answer)
 }
 
@@ -41,7 +41,7 @@ pub extern "C" fn mft_table_announce(
 ) -> u32
     ensures { λ r. ⌜ outcome (reply r (now (answer .exit))) (now (rows .exit)) ≡ replied (announceInto fiveWords 32 (now (rows .entry)) n (route value length port)) ⌝ }
 {
-    counted(update::announce(rows, n, value, length, port), answer)
+    counted(table_update::announce(rows, n, value, length, port), answer)
 }
 
 #[no_mangle]
@@ -54,14 +54,14 @@ pub extern "C" fn mft_table_withdraw(
 ) -> u32
     ensures { λ r. ⌜ outcome (reply r (now (answer .exit))) (now (rows .exit)) ≡ replied (withdrawInto fiveWords 32 (now (rows .entry)) n value length) ⌝ }
 {
-    counted(update::withdraw(rows, n, value, length), answer)
+    counted(table_update::withdraw(rows, n, value, length), answer)
 }
 
 #[no_mangle]
 pub extern "C" fn mft_table_build(list: &[u32], rows: &mut [u32], answer: &mut [u32; 2]) -> u32
     ensures { λ r. ⌜ outcome (reply r (now (answer .exit))) (now (rows .exit)) ≡ replied (buildInto fiveWords 32 (now (list .entry)) (now (rows .entry))) ⌝ }
 {
-    counted(update::build(list, rows), answer)
+    counted(table_update::build(list, rows), answer)
 }
 
 #[no_mangle]

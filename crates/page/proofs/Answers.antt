@@ -9,24 +9,24 @@ use lib.Dec.{eqb, leb}
 use lib.ListN.{length, getD, drop, List·getD-append}
 use borrow.Author.Tests.{eq-eqb, ne-eqb, eqb-true, eqb-false, le-leb, lt-leb, leb-true, leb-false}
 use Rattle.promise.specs.Over.{Outcome, outcome, over}
-use Rattle.bits.proofs.Tests.{way}
+use Rattle.lists.proofs.Tests.{way}
 use Rattle.routes.specs.Refusals.{noRoom, refused, accepted}
-use Rattle.routes.specs.Routes.{routeAt, listOf}
+use Rattle.routes.specs.Routes.{routeAt}
+use Rattle.lists.specs.Numbered.{listOf}
 use Rattle.routes.specs.declared.Answer.{Answer}
 use Rattle.routes.specs.declared.Route.{Route}
-use Rattle.file.specs.Bytes.{Bytes}
-use Rattle.file.specs.File.{fileRoute}
-use Rattle.file.specs.Check.{fileCheck}
-use Rattle.file.specs.Calls.{checkedThen, listOfRoutes, readFile}
-use Rattle.file.specs.Theorems.{FileWidth}
-use Rattle.file.proofs.Words.{length-list, route-in-list}
-use Rattle.file.proofs.Trips.{checked-refused, checked-short, checked-done, done-checked}
-use Rattle.file.proofs.Walk.{accepted-whole}
-use Rattle.file.proofs.Accepted.{file-valid}
-use Rattle.listing.specs.Runs.{Run, runWords}
-use Rattle.listing.specs.Listing.{listed, mostRuns, writeRuns}
-use Rattle.listing.proofs.Listing.{listed-few, length-run-words}
-use Rattle.listing.proofs.Same.{listed-same, valid-same}
+use Rattle.file_rules.specs.Bytes.{Bytes}
+use Rattle.file_rules.specs.File.{fileRoute, FileWidth}
+use Rattle.file_rules.specs.Check.{fileCheck}
+use Rattle.file_rules.specs.Calls.{checkedThen, listOfRoutes, readFile}
+use Rattle.file_rules.proofs.Words.{length-list, route-in-list}
+use Rattle.file_rules.proofs.Trips.{checked-refused, checked-short, checked-done, done-checked}
+use Rattle.file_rules.proofs.Walk.{accepted-whole}
+use Rattle.file_rules.proofs.Accepted.{file-valid}
+use Rattle.runs_rules.specs.Runs.{Run, runWords}
+use Rattle.runs_rules.specs.Listing.{listed, mostRuns, writeRuns}
+use Rattle.runs_rules.proofs.Listing.{listed-few, length-run-words}
+use Rattle.runs_rules.proofs.Same.{listed-same, valid-same}
 use Rattle.page.specs.Page.{linesOf, header, runsText, refusedText, mostBytes, mostRoutesShown, pageText, pageRoom, pageOf, runAt}
 use Rattle.page.specs.Put.{Wrote, Lined, Shown}
 use Rattle.page.proofs.Wrote.{wrote-as, wrote-over}

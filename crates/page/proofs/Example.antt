@@ -8,13 +8,13 @@ use native.Mathlib.Omega.{arith}
 use lib.Dec.{leb}
 use lib.ListN.{length, drop, length-append, length-drop}
 use borrow.Author.Tests.{eq-eqb, ne-eqb, le-leb, lt-leb, leb-true, leb-false}
-use Rattle.bits.proofs.Tests.{way}
+use Rattle.lists.proofs.Tests.{way}
 use Rattle.promise.specs.Over.{Outcome, outcome, over}
-use Rattle.file.specs.File.{fileRoute}
-use Rattle.file.specs.Check.{fileCheck}
-use Rattle.listing.specs.Listing.{listed}
-use Rattle.listing.proofs.Runs.{listing-unique}
-use Rattle.listing.proofs.Listing.{listed-lists}
+use Rattle.file_rules.specs.File.{fileRoute}
+use Rattle.file_rules.specs.Check.{fileCheck}
+use Rattle.runs_rules.specs.Listing.{listed}
+use Rattle.runs_rules.proofs.Runs.{listing-unique}
+use Rattle.runs_rules.proofs.Listing.{listed-lists}
 use Rattle.routes.specs.Scan.{scanOf}
 use Rattle.page.specs.Text.{decimal, dotted}
 use Rattle.page.specs.Page.{runsText, mostBytes, mostRoutesShown, pageText, pageRoom, pageOf}

@@ -6,9 +6,9 @@ use native.Mathlib.Omega.{arith}
 use native.Mathlib.Nat.{zero-add}
 use native.Mathlib.Numerals.{add-one}
 use lib.ListN.{length, getD, length-append}
-use Rattle.routes.specs.Routes.{listOf}
-use Rattle.routes.proofs.Numbered.{list-of-snoc}
-use Rattle.listing.specs.Runs.{Run, run, runWords}
+use Rattle.lists.specs.Numbered.{listOf}
+use Rattle.lists.proofs.Numbered.{list-of-snoc}
+use Rattle.runs_rules.specs.Runs.{Run, run, runWords}
 use Rattle.page.specs.Text.{newline, space, numeral, address}
 use Rattle.page.specs.Page.{lineOf, linesOf, runAt}
 use Rattle.page.specs.Put.{Wrote}

@@ -7,10 +7,10 @@ use lib.ListN.{length, getD}
 use Rattle.promise.specs.Over.{Outcome, outcome, over}
 use Rattle.routes.specs.Refusals.{noRoom, refused}
 use Rattle.routes.specs.declared.Answer.{Answer}
-use Rattle.file.specs.File.{fileRoute}
-use Rattle.file.specs.Check.{fileCheck}
-use Rattle.listing.specs.Runs.{Run, run}
-use Rattle.listing.specs.Listing.{listed}
+use Rattle.file_rules.specs.File.{fileRoute}
+use Rattle.file_rules.specs.Check.{fileCheck}
+use Rattle.runs_rules.specs.Runs.{Run, run}
+use Rattle.runs_rules.specs.Listing.{listed}
 use Rattle.page.specs.Text.{newline, space, numeral, address}
 
 -- "first address, last address, port"

@@ -5,10 +5,10 @@ use Prim.Native.Nat.{ℕ, _*_, _+_, _-_, _^_, _≤_, _<_}
 use lib.ListN.{length}
 use Rattle.promise.specs.Over.{outcome}
 use Rattle.routes.specs.Refusals.{noRoom, refused}
-use Rattle.file.specs.File.{fileRoute}
-use Rattle.file.specs.Check.{fileCheck}
-use Rattle.listing.specs.Runs.{Run, run, Lists}
-use Rattle.listing.specs.Listing.{listed}
+use Rattle.file_rules.specs.File.{fileRoute}
+use Rattle.file_rules.specs.Check.{fileCheck}
+use Rattle.runs_rules.specs.Runs.{Run, run, Lists}
+use Rattle.runs_rules.specs.Listing.{listed}
 use Rattle.routes.specs.Scan.{scanOf}
 use Rattle.page.specs.Text.{address}
 use Rattle.page.specs.Page.{lineOf, runsText, refusedText, mostBytes, mostRoutesShown, pageText, pageOf}

@@ -5,18 +5,19 @@ ghost use Prim.Native.Nat.{_+_, _*_, _≤_};
 ghost use lib.ListN.{length};
 ghost use Rattle.promise.specs.Over.{outcome};
 ghost use Rattle.routes.specs.Refusals.{refused};
-ghost use Rattle.routes.specs.Routes.{routeAt, listOf};
-ghost use Rattle.listing.specs.Runs.{run};
-ghost use Rattle.listing.specs.Listing.{listed};
+ghost use Rattle.routes.specs.Routes.{routeAt};
+ghost use Rattle.lists.specs.Numbered.{listOf};
+ghost use Rattle.runs_rules.specs.Runs.{run};
+ghost use Rattle.runs_rules.specs.Listing.{listed};
 ghost use Rattle.page.specs.Page.{lineOf, linesOf, header, runsText, refusedText, runAt, pageOf};
 ghost use Rattle.page.specs.Put.{Wrote, Lined, Shown};
+use file_read::read_file;
+use list_runs::write_runs;
 use put::put_byte;
 use put::put_bytes;
 use put::put_dotted;
 use put::put_number;
-use reader::read_file;
 use routes::refusal::NO_ROOM;
-use sweep::write_runs;
 
 mod put;
 

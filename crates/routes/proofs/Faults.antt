@@ -9,7 +9,7 @@ use borrow.Author.Tests.{eq-eqb, ne-eqb, eqb-true, le-leb, leb-true, lt-ltb, ltb
 use Rattle.prefix.specs.Prefixes.{prefix}
 use Rattle.prefix.specs.declared.Prefix.{Prefix}
 use Rattle.bits.specs.Prefix.{span, clear, precedes}
-use Rattle.bits.proofs.Tests.{both}
+use Rattle.lists.proofs.Tests.{both}
 use Rattle.routes.specs.Refusals.{unless, longPrefix, spareBits, wrongPort, notAbove, lastPort}
 use Rattle.routes.specs.Routes.{ValidRoute}
 use Rattle.routes.specs.Check.{isPort, prefixFault, routeFault, above, faultAt}

@@ -9,7 +9,7 @@ use native.Mathlib.Numerals.{add-one}
 use lib.Dec.{eqb}
 use borrow.Author.Count.{below-none, below-more}
 use borrow.Author.Tests.{eqb-true, eqb-false, ne-eqb}
-use Rattle.bits.proofs.Tests.{way}
+use Rattle.lists.proofs.Tests.{way}
 use Rattle.routes.specs.Refusals.{refused, accepted}
 use Rattle.routes.specs.Check.{firstFault, FirstFault}
 use Rattle.routes.specs.declared.Answer.{Answer}

@@ -11,11 +11,12 @@ use Rattle.bits.proofs.Bits.{matches-begins, length-take-bits}
 use Rattle.trie.specs.Routes.{Route as BitRoute, Distinct, Ported}
 use Rattle.trie.specs.Scan.{longest, plainScan}
 use Rattle.trie.proofs.Listed.{head-in, tail-in, scan-list-is-scan}
-use Rattle.routes.specs.Routes.{listOf, bitRoute, ValidList}
+use Rattle.routes.specs.Routes.{bitRoute, ValidList}
+use Rattle.lists.specs.Numbered.{listOf}
 use Rattle.routes.specs.Scan.{routeMatches}
 use Rattle.routes.specs.Theorems.{ScanIsHeld}
 use Rattle.routes.specs.declared.Route.{Route}
-use Rattle.routes.proofs.Numbered.{mem-list-of, map-list-of}
+use Rattle.lists.proofs.Numbered.{mem-list-of, map-list-of}
 use Rattle.routes.proofs.Rising.{prefixes-differ}
 
 -- routes of one kind read as routes of another

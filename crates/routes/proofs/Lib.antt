@@ -2,8 +2,8 @@
 pub mod Faults
 pub mod First
 pub mod Check
-pub mod Numbered
 pub mod Rising
 pub mod Scan
 pub mod Held
 pub mod Unique
+pub mod Words

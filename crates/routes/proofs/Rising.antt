@@ -1,12 +1,11 @@
 -- The routes of a valid list: an earlier one precedes a later one, so no two have one prefix, and of two that match an address
 -- the later is the longer. Assumes nothing.
-use mathlib.Core.Path.{_≡_, sym, ap, _∙_}
+use mathlib.Core.Path.{_≡_}
 use mathlib.Core.Bool.{true}
-use Prim.Native.Nat.{ℕ, zero, suc, _+_, _-_, _*_, _<_}
+use Prim.Native.Nat.{ℕ, zero, suc, _+_, _-_, _<_}
 use native.Mathlib.Omega.{arith}
 use Rattle.bits.specs.Bits.{prefixBits}
-use Rattle.bits.specs.Prefix.{span, head, Valid}
-use Rattle.bits.proofs.Bits.{prefix-unique}
+use Rattle.bits.proofs.Bits.{valid-prefix-unique}
 use Rattle.bits.proofs.Prefix.{first-valid, matches→within, within→matches}
 use Rattle.bits.proofs.Order.{Precedes, precedes-is, precedes-trans, precedes-irrefl, precedes-value-le, later-longer}
 use Rattle.routes.specs.Routes.{ValidList}
@@ -16,19 +15,6 @@ use Rattle.routes.specs.declared.Route.{Route}
 -- route j stands before route k
 abbrev pub Before : (ℕ → Route) → ℕ → ℕ → Type 0
 Before R j k = Precedes (R j .value) (R j .len) (R k .value) (R k .len)
-
--- valid prefixes with the same bits are one
-pub valid-prefix-unique : (w v l v′ l′ : ℕ) → Valid w v l → Valid w v′ l′ → prefixBits w v l ≡ prefixBits w v′ l′
-    → (v ≡ v′) × (l ≡ l′)
-valid-prefix-unique w v l v′ l′ ok ok′ e = (value-is, u .0)
-  where
-    u : (l ≡ l′) × (head w l v ≡ head w l v′)
-    u = prefix-unique w v v′ l l′ (ok .short) (ok′ .short) (ok .fits) (ok′ .fits) e
-
-    value-is : v ≡ v′
-    value-is =
-        sym (first-valid w v l ok) ∙ ap (λ (x : ℕ). x * span w l) (u .1)
-        ∙ ap (λ (m : ℕ). head w m v′ * span w m) (u .0) ∙ first-valid w v′ l′ ok′
 
 module _ (w : ℕ) (R : ℕ → Route) (n : ℕ) (ok : ValidList w R n) where
   next : (j : ℕ) → j + 1 < n → Before R j (j + 1)

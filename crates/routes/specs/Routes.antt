@@ -2,10 +2,10 @@
 -- Routes are numbered, so that no list is taken apart: R i is route i. Assumes nothing.
 use mathlib.Core.Path.{_≡_}
 use mathlib.Core.Bool.{true}
-use mathlib.Core.List.{List, [], _∷_}
-use Prim.Native.Nat.{ℕ, zero, suc, _+_, _*_, _/_, _≤_, _<_}
+use mathlib.Core.List.{List, [], _∷_, _++_}
+use Prim.Native.Nat.{ℕ, _+_, _*_, _/_, _≤_, _<_, _%_, _^_}
 use lib.ListN.{length, getD}
-use Rattle.bits.specs.Bits.{prefixBits}
+use Rattle.bits.specs.Bits.{prefixBits, bits}
 use Rattle.bits.specs.Prefix.{Valid, precedes}
 use Rattle.trie.specs.Routes.{Route as BitRoute}
 use Rattle.routes.specs.Refusals.{mostRoutes, lastPort}
@@ -26,11 +26,6 @@ routeCount words = length words / 3
 abbrev pub routeWords : Route → List ℕ
 routeWords r = r .value ∷ r .len ∷ r .port ∷ []
 
--- k elements from number i on
-unfoldable pub listOf : {X : Type 0} → (ℕ → X) → ℕ → ℕ → List X
-listOf R zero i = []
-listOf R (suc k) i = R i ∷ listOf R k (i + 1)
-
 -- "A route is a prefix and a port, 1..4094."
 pub record ValidRoute (w : ℕ) (r : Route) : Type 0 where
   pub prefix : Valid w (r .value) (r .len)
@@ -46,3 +41,17 @@ pub record ValidList (w : ℕ) (R : ℕ → Route) (n : ℕ) : Type 0 where
 -- a route by the bits of its prefix
 abbrev pub bitRoute : ℕ → Route → BitRoute
 bitRoute w r = record { prefix = prefixBits w (r .value) (r .len); port = r .port }
+
+-- the words of routes, one after the other
+unfoldable pub wordsOf : List Route → List ℕ
+wordsOf [] = []
+wordsOf (r ∷ rs) = routeWords r ++ wordsOf rs
+
+-- every word of the list is a word of w bits
+abbrev pub Words : ℕ → List ℕ → Type 0
+Words w words = (i : ℕ) → getD words i 0 < 2 ^ w
+
+-- the words are three a route, and no more routes than may be
+pub record Sized (words : List ℕ) : Type 0 where
+  pub whole : length words % 3 ≡ 0
+  pub few : routeCount words ≤ mostRoutes

@@ -5,7 +5,8 @@ use Prim.Native.Nat.{ℕ, zero, suc}
 use Rattle.bits.specs.Prefix.{matches}
 use Rattle.trie.specs.Scan.{plainScan}
 use Rattle.routes.specs.Refusals.{accepted, andThen}
-use Rattle.routes.specs.Routes.{routeAt, routeCount, listOf}
+use Rattle.routes.specs.Routes.{routeAt, routeCount}
+use Rattle.lists.specs.Numbered.{listOf}
 use Rattle.routes.specs.Check.{listCheck}
 use Rattle.routes.specs.declared.Route.{Route}
 use Rattle.routes.specs.declared.Answer.{Answer}

@@ -3,24 +3,16 @@ use mathlib.Core.Path.{_≡_}
 use mathlib.Core.List.{List, map}
 use mathlib.Core.Logic.{_⊎_, _↔_}
 use Prim.Native.Nat.{ℕ, _%_, _^_, _≤_, _<_}
-use lib.ListN.{length, getD}
+use lib.ListN.{length}
 use Rattle.bits.specs.Bits.{bits}
 use Rattle.trie.specs.Routes.{held}
 use Rattle.trie.specs.Scan.{scan}
 use Rattle.routes.specs.Refusals.{wrongSize, longPrefix, notAbove, tooManyRoutes, mostRoutes, refused, accepted}
-use Rattle.routes.specs.Routes.{routeAt, routeCount, listOf, bitRoute, ValidList}
+use Rattle.routes.specs.Routes.{routeAt, routeCount, bitRoute, ValidList, Words, Sized}
+use Rattle.lists.specs.Numbered.{listOf}
 use Rattle.routes.specs.Check.{faultAt, FirstFault, listCheck}
 use Rattle.routes.specs.Scan.{scanOf, lastMatch}
 use Rattle.routes.specs.declared.Route.{Route}
-
--- every word of the list is a word of w bits
-abbrev pub Words : ℕ → List ℕ → Type 0
-Words w words = (i : ℕ) → getD words i 0 < 2 ^ w
-
--- the words are three a route, and no more routes than may be
-pub record Sized (words : List ℕ) : Type 0 where
-  pub whole : length words % 3 ≡ 0
-  pub few : routeCount words ≤ mostRoutes
 
 -- "exactly in the listed case": done if and only if the list is valid
 abbrev pub CheckDone : Type 0

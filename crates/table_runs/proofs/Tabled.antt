@@ -10,30 +10,30 @@ use lib.ListN.{length, drop}
 use borrow.Author.Tests.{le-leb}
 use Rattle.promise.specs.Over.{Outcome, outcome, over}
 use Rattle.bits.specs.Bits.{bits}
-use Rattle.bits.proofs.Tests.{way}
+use Rattle.lists.proofs.Tests.{way}
 use Rattle.trie.specs.Scan.{scan}
 use Rattle.routes.specs.Refusals.{notInOrder, mostRoutes, refused, accepted}
-use Rattle.routes.specs.Routes.{route, routeAt, ValidList}
+use Rattle.routes.specs.Routes.{route, routeAt, ValidList, wordsOf}
 use Rattle.routes.specs.Scan.{scanOf}
 use Rattle.routes.specs.declared.Answer.{Answer}
-use Rattle.cells.specs.Words.{rowCount}
-use Rattle.cells.specs.Words.{capacity as capacityOf}
-use Rattle.cells.specs.Rows.{Mem}
-use Rattle.cells.specs.Holds.{GoodOrder}
-use Rattle.cells.specs.Check.{isGood}
-use Rattle.cells.specs.Save.{saved, wordsOf, saveInto}
-use Rattle.cells.specs.Theorems.{SavedWell}
-use Rattle.order.proofs.Good.{check-is-good}
-use Rattle.order.proofs.Saved.{saved-is}
-use Rattle.order.proofs.Looked.{lookup-is-saved-scan}
-use Rattle.cells.proofs.Lookup.{lookup-is-scan}
-use Rattle.cells.specs.declared.Found.{Found}
-use Rattle.order.proofs.ListWords.{get-words-at}
-use Rattle.listing.specs.Runs.{Run}
-use Rattle.listing.specs.Listing.{listed, mostRuns, writeRuns}
-use Rattle.listing.proofs.Runs.{listing-unique}
-use Rattle.listing.proofs.Listing.{listed-lists, never-too-many}
-use Rattle.listing.proofs.Same.{listed-same, valid-same, lists-same}
+use Rattle.table_rows.specs.Words.{rowCount}
+use Rattle.table_rows.specs.Words.{capacity as capacityOf}
+use Rattle.table_rules.specs.Rows.{Mem}
+use Rattle.table_rules.specs.Holds.{GoodOrder}
+use Rattle.table_rules.specs.Check.{isGood}
+use Rattle.table_rules.specs.Save.{saved, saveInto}
+use Rattle.table_rules.specs.Theorems.{SavedWell}
+use Rattle.table_rules.proofs.Good.{check-is-good}
+use Rattle.table_rules.proofs.Saved.{saved-is}
+use Rattle.table_rules.proofs.Looked.{lookup-is-saved-scan}
+use Rattle.table_rules.proofs.Lookup.{lookup-is-scan}
+use Rattle.table_rules.specs.declared.Found.{Found}
+use Rattle.routes.proofs.Words.{get-words-at}
+use Rattle.runs_rules.specs.Runs.{Run}
+use Rattle.runs_rules.specs.Listing.{listed, mostRuns, writeRuns}
+use Rattle.runs_rules.proofs.Runs.{listing-unique}
+use Rattle.runs_rules.proofs.Listing.{listed-lists, never-too-many}
+use Rattle.runs_rules.proofs.Same.{listed-same, valid-same, lists-same}
 use Rattle.table_runs.specs.TableRuns.{tableRoutes, tableRuns}
 use Rattle.table_runs.specs.Theorems.{TableRunsDone, TableRunsRefused}
 

@@ -9,10 +9,10 @@ use Rattle.routes.specs.Refusals.{notInOrder, refused}
 use Rattle.routes.specs.Routes.{route}
 use Rattle.routes.specs.declared.Answer.{Answer}
 use Rattle.routes.specs.declared.Route.{Route}
-use Rattle.cells.specs.Rows.{Mem}
-use Rattle.cells.specs.Check.{isGood}
-use Rattle.cells.specs.Save.{saved}
-use Rattle.listing.specs.Listing.{listed, writeRuns}
+use Rattle.table_rules.specs.Rows.{Mem}
+use Rattle.table_rules.specs.Check.{isGood}
+use Rattle.table_rules.specs.Save.{saved}
+use Rattle.runs_rules.specs.Listing.{listed, writeRuns}
 
 -- the routes of a table in list order
 abbrev pub tableRoutes : ℕ → Mem → ℕ → ℕ → Route

@@ -9,10 +9,10 @@ use Rattle.bits.specs.Bits.{bits}
 use Rattle.trie.specs.Routes.{Routes}
 use Rattle.trie.specs.Scan.{scan}
 use Rattle.routes.specs.Refusals.{notInOrder, mostRoutes, refused, accepted}
-use Rattle.cells.specs.Rows.{Mem}
-use Rattle.cells.specs.Holds.{GoodFor}
-use Rattle.cells.specs.Check.{isGood}
-use Rattle.listing.specs.Runs.{Run, Lists, runWords}
+use Rattle.table_rules.specs.Rows.{Mem}
+use Rattle.table_rules.specs.Holds.{GoodFor}
+use Rattle.table_rules.specs.Check.{isGood}
+use Rattle.runs_rules.specs.Runs.{Run, Lists, runWords}
 use Rattle.table_runs.specs.TableRuns.{tableRuns}
 
 -- a table in good order with room for its runs: the words of THE listing of the plain scan of just the routes it holds, what

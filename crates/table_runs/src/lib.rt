@@ -1,11 +1,11 @@
 // The run listing of a table: its routes are saved into a list, and that is listed.
 ghost use mathlib.Core.Path.{_≡_};
 ghost use Rattle.promise.specs.Over.{outcome};
-ghost use Rattle.cells.specs.Words.{capacity, rowAt};
+ghost use Rattle.table_rows.specs.Words.{capacity, rowAt};
 ghost use Rattle.table_runs.specs.TableRuns.{tableRuns};
+use list_runs::write_runs;
 use routes::Answer;
-use save::save;
-use sweep::write_runs;
+use table_save::save;
 
 // The run listing of a table of n rows: three words a run, first address, last address, port; and their number. Refuses 11
 // where the table is not in good order, then 13, more than 8,193 runs, then 9, no room for them, all at place 0.

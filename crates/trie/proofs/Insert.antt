@@ -9,7 +9,7 @@ use lib.Dec.{eqb}
 use borrow.Author.Tests.{eq-eqb, ne-eqb}
 use Rattle.bits.specs.Bits.{Bits, same}
 use Rattle.bits.proofs.Bits.{same-refl, same-eq}
-use Rattle.bits.proofs.Tests.{way}
+use Rattle.lists.proofs.Tests.{way}
 use Rattle.trie.specs.Routes.{Routes, upd, side}
 use Rattle.trie.specs.Trie.{Trie, leaf, node, Holds, IsTrie, Top, over}
 use Rattle.trie.specs.Update.{down, insert, growsOn, grows}

@@ -10,7 +10,7 @@ use lib.ListN.{length}
 use borrow.Author.Tests.{leb-true, leb-false, le-leb, lt-leb}
 use Rattle.bits.specs.Bits.{Bits, same, begins}
 use Rattle.bits.proofs.Bits.{same-eq, same-refl}
-use Rattle.bits.proofs.Tests.{way, both}
+use Rattle.lists.proofs.Tests.{way, both}
 use Rattle.trie.specs.Routes.{Route, Routes, noRoutes, upd, heldFrom, held, Distinct, Ported}
 use Rattle.trie.specs.Scan.{longest, plainScan, scanList, scan}
 use Rattle.trie.specs.Theorems.{PlainScanIs, ScanListIsScan}

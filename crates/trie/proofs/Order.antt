@@ -10,7 +10,7 @@ use lib.ListN.{length}
 use borrow.Author.Tests.{lt-ltb, le-ltb, eq-eqb, ne-eqb, ltb-true, ltb-false, eqb-true, eqb-false}
 use Rattle.bits.specs.Bits.{Bits, value}
 use Rattle.bits.proofs.Bits.{bits-unique}
-use Rattle.bits.proofs.Tests.{way, both, either, test-no}
+use Rattle.lists.proofs.Tests.{way, both, either, test-no}
 use Rattle.trie.specs.Trie.{ahead, over}
 
 -- the order as a statement, and its opposite

@@ -7,7 +7,7 @@ use Prim.Native.Nat.{ℕ, zero, suc, _<_}
 use native.Mathlib.Omega.{arith}
 use Rattle.bits.specs.Bits.{Bits, same}
 use Rattle.bits.proofs.Bits.{same-refl, same-eq}
-use Rattle.bits.proofs.Tests.{way, test-no}
+use Rattle.lists.proofs.Tests.{way, test-no}
 use Rattle.trie.specs.Routes.{Routes, upd}
 
 pub same-no : (s q : Bits) → (s ≡ q → ⊥) → same s q ≡ false

@@ -7,7 +7,7 @@ use native.Mathlib.Omega.{arith}
 use lib.ListN.{length}
 use Rattle.bits.specs.Bits.{Bits, same, begins}
 use Rattle.bits.proofs.Bits.{beq-refl, beq-eq}
-use Rattle.bits.proofs.Tests.{both}
+use Rattle.lists.proofs.Tests.{both}
 use Rattle.trie.specs.Routes.{Routes, upd, side}
 use Rattle.trie.specs.Scan.{orElse, scan}
 

@@ -3,7 +3,7 @@ use mathlib.Core.Path.{_≡_, refl}
 use lib.ListN.{length, getD}
 use native.Mathlib.Omega.{arith}
 use borrow.Author.Needs.{needs}
-use Rattle.routes.specs.Routes.{listOf}
+use Rattle.lists.specs.Numbered.{listOf}
 use Rattle.page.specs.Page.{linesOf, runAt}
 use Rattle.page.specs.Put.{Wrote}
 use Rattle.page.proofs.Wrote.{wrote-none}

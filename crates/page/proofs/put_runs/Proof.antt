@@ -1,6 +1,6 @@
 use mathlib.Core.Path.{refl}
 use Rattle.routes.specs.Routes.{routeAt}
-use Rattle.listing.specs.Listing.{listed}
+use Rattle.runs_rules.specs.Listing.{listed}
 use Rattle.page.specs.Page.{runsText}
 use Rattle.page.proofs.Wrote.{wrote-as}
 use Rattle.page.proofs.Answers.{listing-lined, listing-shown}

@@ -1,5 +1,5 @@
 use mathlib.Core.Path.{refl}
-use Rattle.cells.specs.Words.{capacity, rowAt}
+use Rattle.table_rows.specs.Words.{capacity, rowAt}
 use Rattle.table_runs.proofs.Tabled.{capacity-le, saved-refused, saved-valid, saved-listed}
 use borrow.Author.Needs.{needs}
 use Rattle.table_runs.proofs.table_runs.Statement.{statement}

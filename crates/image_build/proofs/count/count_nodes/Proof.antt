@@ -4,7 +4,7 @@ use denote.Ref.{now}
 use Prim.Native.Nat.{_+_, _-_, _*_, _/_, _≤_}
 use native.Mathlib.Omega.{arith}
 use Rattle.routes.specs.Routes.{routeAt}
-use Rattle.stretch.specs.Count.{nodesAt, sumOf, nodesCount}
+use Rattle.image_stretch.specs.Count.{nodesAt, sumOf, nodesCount}
 use borrow.Author.Needs.{needs}
 use Rattle.image_build.proofs.count.count_nodes.Statement.{statement}
 use Rattle.image_build.proofs.count.count_nodes.Tie as tie

@@ -4,7 +4,7 @@ use Prim.Native.Nat.{_+_, _-_, _*_, _/_, _≤_}
 use native.Mathlib.Omega.{arith}
 use native.Mathlib.Nat.{div-le-self, zero-add}
 use Rattle.routes.specs.Routes.{routeAt}
-use Rattle.stretch.specs.Count.{nodesAt}
+use Rattle.image_stretch.specs.Count.{nodesAt}
 use Rattle.image_build.proofs.Counted.{levels-some, nodes-at-more, nodes-at-none}
 use borrow.Author.Needs.{needs}
 use Rattle.image_build.proofs.count.nodes_at.Statement.{statement}

@@ -4,8 +4,8 @@ use native.Mathlib.Omega.{arith}
 use denote.Ref.{now}
 use Rattle.prefix.specs.declared.Prefix.{Prefix}
 use Rattle.routes.specs.Routes.{routeAt}
-use Rattle.stretch.specs.Stretches.{slotIn, slotAt}
-use Rattle.stretch.proofs.Filling.{Filling, filling-none, filling-more, filling-room, filling-all}
+use Rattle.image_stretch.specs.Stretches.{slotIn, slotAt}
+use Rattle.image_stretch.proofs.Filling.{Filling, filling-none, filling-more, filling-room, filling-all}
 use Rattle.image_build.proofs.Slotted.{slot-found}
 use borrow.Author.Needs.{needs}
 use Rattle.image_build.proofs.fill.fill_node.Statement.{statement}

@@ -5,11 +5,11 @@ use denote.Ref.{now}
 use lib.ListN.{length}
 use lib.Seq.{sets}
 use Rattle.routes.specs.Routes.{routeAt}
-use Rattle.breadth.specs.Flat.{flat}
-use Rattle.breadth.specs.Breadth.{Slot, childOf, portOf}
-use Rattle.stretch.specs.declared.Stretch.{Stretch}
-use Rattle.stretch.specs.Stretches.{slotIn}
-use Rattle.stretch.specs.Memory.{pending}
+use Rattle.lists.specs.Flat.{flat}
+use Rattle.image_rules.specs.Breadth.{Slot, childOf, portOf}
+use Rattle.image_stretch.specs.declared.Stretch.{Stretch}
+use Rattle.image_stretch.specs.Stretches.{slotIn}
+use Rattle.image_stretch.specs.Memory.{pending}
 use Rattle.image_build.proofs.Slotted.{slot-goes, slot-ends, filled-goes, filled-ends}
 use borrow.Author.Needs.{needs}
 use Rattle.image_build.proofs.fill.fill_slot.Statement.{statement}

@@ -5,10 +5,10 @@ use native.Mathlib.Omega.{arith}
 use denote.Ref.{now}
 use lib.ListN.{length}
 use Rattle.routes.specs.Routes.{routeAt}
-use Rattle.breadth.specs.Breadth.{levels}
-use Rattle.stretch.specs.declared.Stretch.{Stretch}
-use Rattle.stretch.specs.Stretches.{stretchSlots, rootOf}
-use Rattle.stretch.proofs.Running.{Running, running-none, running-in, running-room, running-more, running-all}
+use Rattle.image_rules.specs.Breadth.{levels}
+use Rattle.image_stretch.specs.declared.Stretch.{Stretch}
+use Rattle.image_stretch.specs.Stretches.{stretchSlots, rootOf}
+use Rattle.image_stretch.proofs.Running.{Running, running-none, running-in, running-room, running-more, running-all}
 use borrow.Author.Needs.{needs}
 use Rattle.image_build.proofs.fill.run_all.Statement.{statement}
 use Rattle.image_build.proofs.fill.run_all.Tie as tie

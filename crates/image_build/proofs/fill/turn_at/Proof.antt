@@ -2,9 +2,9 @@ use mathlib.Core.Path.{ap}
 use native.Mathlib.Omega.{arith}
 use denote.Ref.{now}
 use Rattle.routes.specs.Routes.{routeAt}
-use Rattle.stretch.specs.declared.Filled.{Filled}
-use Rattle.stretch.specs.Stretches.{stretchSlots}
-use Rattle.stretch.specs.Memory.{pendingAt}
+use Rattle.image_stretch.specs.declared.Filled.{Filled}
+use Rattle.image_stretch.specs.Stretches.{stretchSlots}
+use Rattle.image_stretch.specs.Memory.{pendingAt}
 use Rattle.image_build.proofs.Turning.{fill-ready, turn-is}
 use borrow.Author.Needs.{needs}
 use Rattle.image_build.proofs.fill.turn_at.Statement.{statement}

@@ -5,8 +5,8 @@ use mathlib.Core.Path.{_≡_, refl, sym, _∙_}
 use Prim.Native.Nat.{_-_, _≤_}
 use native.Mathlib.Omega.{arith}
 use Rattle.routes.specs.Routes.{routeAt}
-use Rattle.stretch.specs.Stretches.{past, ahead}
-use Rattle.stretch.proofs.Search.{past-more, past-here, past-all}
+use Rattle.image_stretch.specs.Stretches.{past, ahead}
+use Rattle.image_stretch.proofs.Search.{past-more, past-here, past-all}
 use borrow.Author.Needs.{needs}
 use Rattle.image_build.proofs.search.first_from.Statement.{statement}
 use Rattle.image_build.proofs.search.first_from.Tie as tie

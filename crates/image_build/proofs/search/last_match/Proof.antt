@@ -6,8 +6,8 @@ use native.Mathlib.Omega.{arith}
 use Rattle.bits.specs.Prefix.{matches}
 use Rattle.prefix.specs.declared.Prefix.{Prefix}
 use Rattle.routes.specs.Routes.{routeAt}
-use Rattle.stretch.specs.Stretches.{halfWord, lastFrom}
-use Rattle.stretch.proofs.Search.{last-from-none, last-from-more}
+use Rattle.image_stretch.specs.Stretches.{halfWord, lastFrom}
+use Rattle.image_stretch.proofs.Search.{last-from-none, last-from-more}
 use borrow.Author.Needs.{needs}
 use Rattle.image_build.proofs.search.last_match.Statement.{statement}
 use Rattle.image_build.proofs.search.last_match.Tie as tie

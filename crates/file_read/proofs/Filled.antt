@@ -1,0 +1,66 @@
+-- The routes of a file written into a list, one after the other. Assumes nothing.
+use mathlib.Core.Path.{_≡_, refl, sym, ap, ap₂, _∙_}
+use mathlib.Core.List.{List, _++_}
+use Prim.Native.Nat.{ℕ, _+_, _*_, _≤_, _<_}
+use native.Mathlib.Omega.{arith}
+use lib.ListN.{length, length-set}
+use Rattle.promise.specs.Over.{over, put3}
+use Rattle.promise.proofs.Over.{over-put3}
+use Rattle.routes.specs.Routes.{routeWords}
+use Rattle.routes.specs.declared.Route.{Route}
+use Rattle.file_rules.specs.File.{prefixBytes, lenAt, readAt, placeOf, fileRoute, inOrder}
+use Rattle.file_rules.specs.Check.{Entire}
+use Rattle.file_rules.specs.Calls.{listOfRoutes}
+use Rattle.file_rules.specs.declared.Spared.{Spared}
+use Rattle.file_rules.proofs.InOrder.{in-order-more}
+use Rattle.file_rules.proofs.Sound.{place-more, fault-none}
+use Rattle.file_rules.proofs.Words.{length-list}
+use Rattle.file_read.specs.Parts.{FitsList}
+
+-- i of n routes are written, and the next one is at an offset
+pub record Filled (w : ℕ) (file list₀ : List ℕ) (n : ℕ) (list : List ℕ) (at i : ℕ) : Type 0 where
+  pub passed : i ≤ n
+  pub at-place : at ≡ placeOf file i
+  pub same : length list ≡ length list₀
+  pub written : list ≡ over (listOfRoutes (fileRoute w file) i) list₀
+
+pub filled-none : (w : ℕ) (file list : List ℕ) (n : ℕ) → Filled w file list n list 5 0
+unfolding placeOf inOrder
+filled-none w file list n = record { passed = omega arith; at-place = refl; same = refl; written = refl }
+
+module _ (w : ℕ) (file list₀ : List ℕ) (n : ℕ) (fits : FitsList w file list₀ n) (list : List ℕ) (at i : ℕ) (so : Filled w file list₀ n list at i) where
+  pub filled-entire : i < n → Entire w file at
+  filled-entire h = rw (so .at-place) (fault-none w file i (fits .whole .none i h) .entire)
+
+  -- the next offset lies in the file, or at its end
+  pub filled-next : i < n → (x : Spared) (k : ℕ) → x ≡ readAt w file at → k ≡ prefixBytes (x .route .len) → at + (k + 3) ≤ length file
+  unfolding readAt
+  filled-next h x k x-is k-is =
+      let e : k ≡ prefixBytes (lenAt file at) = k-is ∙ ap (λ (y : Spared). prefixBytes (y .route .len)) x-is in
+      omega (arith, filled-entire h .uncut, e)
+
+  pub filled-more : i < n → (x : Spared) (list′ : List ℕ) (k : ℕ) → x ≡ readAt w file at
+      → list′ ≡ put3 list (i * 3) (x .route .value) (x .route .len) (x .route .port) → k ≡ prefixBytes (x .route .len)
+      → Filled w file list₀ n list′ (at + (k + 3)) (i + 1)
+  unfolding readAt
+  filled-more h x list′ k x-is list-is k-is = record {
+    passed = omega arith;
+    at-place = ap₂ (λ (p q : ℕ). p + (q + 3)) (so .at-place) (k-is ∙ ap (λ (r : Route). prefixBytes (r .len)) route-is) ∙ sym (place-more file i);
+    same = ap length list-is ∙ simp length-set (so .same);
+    written =
+        list-is ∙ ap (λ (l : List ℕ). put3 l (i * 3) (x .route .value) (x .route .len) (x .route .port)) (so .written)
+        ∙ over-put3 (listOfRoutes R i) list₀ (x .route .value) (x .route .len) (x .route .port) (i * 3) (length-list R i) (omega (arith, fits .room))
+        ∙ ap (λ (r : Route). over (listOfRoutes R i ++ routeWords r) list₀) route-is
+        ∙ ap (λ (l : List ℕ). over l list₀) (sym (in-order-more routeWords R i));
+  }
+    where
+      R : ℕ → Route
+      R = fileRoute w file
+
+      route-is : x .route ≡ R i
+      route-is = ap (λ (y : Spared). y .route) (x-is ∙ ap (readAt w file) (so .at-place))
+
+  pub filled-all : n ≤ i → list ≡ over (listOfRoutes (fileRoute w file) n) list₀
+  filled-all h =
+      let e : i ≡ n = omega (arith, so .passed) in
+      so .written ∙ ap (λ (j : ℕ). over (listOfRoutes (fileRoute w file) j) list₀) e

@@ -1,0 +1,63 @@
+-- A route read at an offset, and the three answers of a step, from what the code has found. Assumes nothing.
+use mathlib.Core.Path.{_≡_, sym, ap, ap₂, _∙_}
+use mathlib.Core.Bool.{Bool, _||_}
+use mathlib.Core.List.{List}
+use Prim.Native.Nat.{ℕ, _+_}
+use lib.Dec.{eqb}
+use borrow.Author.Tests.{ne-eqb}
+use Rattle.bits.specs.Prefix.{precedes}
+use Rattle.routes.specs.Refusals.{refused}
+use Rattle.routes.specs.Routes.{route}
+use Rattle.routes.specs.declared.Answer.{Answer}
+use Rattle.routes.proofs.Faults.{chain-fault, chain-rest}
+use Rattle.file_rules.specs.File.{prefixBytes, lenAt, valueFrom, portFrom, spare, readAt}
+use Rattle.file_rules.specs.Check.{frameFault, contentFault, Entire}
+use Rattle.file_read.specs.Step.{faultAfter, cursorAfter, stepAt}
+use Rattle.file_read.specs.declared.step.Cursor.{Cursor}
+use Rattle.file_rules.specs.declared.Spared.{Spared}
+use Rattle.file_read.specs.declared.step.Step.the-variants.{Took, Refused}
+use Rattle.file_rules.proofs.Sound.{frame-fault-rest, frame-none}
+
+pub read-is : (w : ℕ) (file : List ℕ) (at len k value port : ℕ) (x : Spared)
+    → len ≡ lenAt file at → k ≡ prefixBytes len → value ≡ valueFrom w file (at + 1) len → port ≡ portFrom file (at + 1 + k)
+    → x ≡ spare w (route value len port) → x ≡ readAt w file at
+unfolding readAt
+read-is w file at len k value port x len-is k-is value-is port-is e =
+    e ∙ ap₂ (λ (v p : ℕ). spare w (route v len p)) value-is (port-is ∙ ap (λ (j : ℕ). portFrom file (at + 1 + j)) k-is)
+    ∙ ap (λ (l : ℕ). spare w (route (valueFrom w file (at + 1) l) l (portFrom file (at + 1 + prefixBytes l)))) len-is
+
+module _ (w : ℕ) (file : List ℕ) (c : Cursor) (frame : ℕ) (frame-is : frame ≡ frameFault w file (c .count) (c .at) 0) where
+  refused-step : (m : ℕ) (a : Answer) → faultAfter w file c ≡ m → (m ≡ 0 → ⊥) → a ≡ refused m (c .at) → Refused a ≡ stepAt w file c
+  unfolding stepAt
+  refused-step m a e n a-is = ap Refused a-is ∙ sym (rw (e, ne-eqb m 0 n))
+
+  -- 8, 4, 3 (cut)
+  pub step-unframed : (a : Answer) → (frame ≡ 0 → ⊥) → a ≡ refused frame (c .at) → Refused a ≡ stepAt w file c
+  unfolding faultAfter
+  step-unframed a n =
+      refused-step frame a (chain-fault (frameFault w file (c .count) (c .at)) (frame-fault-rest w file (c .count) (c .at)) frame frame-is _ n) n
+
+  module _ (framed : frame ≡ 0) where
+    pub step-entire : Entire w file (c .at)
+    step-entire = frame-none w file (c .count) (c .at) 0 (sym frame-is ∙ framed) .1
+
+    module _ (x : Spared) (x-is : x ≡ readAt w file (c .at)) (rises : Bool)
+        (rises-is : rises ≡ (eqb (c .count) 0 || precedes (c .value) (c .len) (x .route .value) (x .route .len)))
+        (fault : ℕ) (fault-is : fault ≡ contentFault x rises) where
+      fault-after : faultAfter w file c ≡ fault
+      unfolding faultAfter
+      fault-after =
+          chain-rest (frameFault w file (c .count) (c .at)) (frame-fault-rest w file (c .count) (c .at)) frame frame-is _ framed
+          ∙ sym (fault-is ∙ ap (contentFault x) rises-is
+          ∙ ap (λ (y : Spared). contentFault y (eqb (c .count) 0 || precedes (c .value) (c .len) (y .route .value) (y .route .len))) x-is)
+
+      -- 5, 6, 7
+      pub step-faulty : (a : Answer) → (fault ≡ 0 → ⊥) → a ≡ refused fault (c .at) → Refused a ≡ stepAt w file c
+      step-faulty a n = refused-step fault a fault-after n
+
+      pub step-took : fault ≡ 0 → (k : ℕ) → k ≡ prefixBytes (x .route .len)
+          → Took (x .route) (record { at = c .at + (k + 3); count = c .count + 1; value = x .route .value; len = x .route .len }) ≡ stepAt w file c
+      unfolding stepAt
+      step-took z k k-is =
+          ap (λ (j : ℕ). Took (x .route) (record { at = c .at + (j + 3); count = c .count + 1; value = x .route .value; len = x .route .len })) k-is
+          ∙ sym (rw (fault-after ∙ z) (ap (λ (y : Spared). Took (y .route) (cursorAfter c (y .route))) (sym x-is)))

@@ -1,0 +1,112 @@
+// The reader of route files, on any bytes: a first pass that checks and counts, and a second that writes.
+ghost use mathlib.Core.Path.{_≡_};
+ghost use Prim.Native.Nat.{_+_, _*_, _≤_};
+ghost use lib.ListN.{length};
+ghost use Rattle.promise.specs.Over.{over, put3, outcome};
+ghost use Rattle.file_rules.specs.File.{fileRoute};
+ghost use Rattle.file_rules.specs.Check.{headFault, fileCheck};
+ghost use Rattle.file_rules.specs.Calls.{listOfRoutes, readFile};
+ghost use Rattle.file_read.specs.Parts.{FitsList};
+use file_rules::HEAD_SIZE;
+use file_rules::VERSION;
+use file_rules::prefix_bytes;
+use routes::Answer;
+use routes::Route;
+use routes::refusal::NO_ROOM;
+use routes::refusal::SHORT_FILE;
+use routes::refusal::WRONG_SIZE;
+use routes::refusal::WRONG_VERSION;
+use step::Cursor;
+use step::Step;
+use step::number_at;
+use step::read_at;
+use step::step_at;
+
+mod step;
+
+// What is wrong with the head of a file, 0 if nothing is: 1, under 5 bytes; 2, its version is not 1; 3, its stated size.
+fn head_fault(file: &[u8]) -> u32
+    ensures { λ r. ⌜ r ≡ headFault (now (file .entry)) ⌝ }
+{
+    if file.len() < HEAD_SIZE {
+        return SHORT_FILE;
+    }
+    if file[0] != VERSION {
+        return WRONG_VERSION;
+    }
+    let stated = number_at(file, 1, 4);
+    let present = (file.len() - HEAD_SIZE) as u64;
+    if stated == present { 0 } else { WRONG_SIZE }
+}
+
+// Checks a file, and counts its routes.
+fn check_file(file: &[u8]) -> Answer
+    ensures { λ r. ⌜ r ≡ fileCheck 32 (now (file .entry)) ⌝ }
+{
+    let head = head_fault(file);
+    if head != 0 {
+        return Answer::refused(head, 0);
+    }
+    let mut c = Cursor {
+        at: HEAD_SIZE,
+        count: 0,
+        value: 0,
+        len: 0,
+    };
+    while c.at < file.len() {
+        let step = step_at(file, c);
+        match step {
+            Step::Took(_, next) => {
+                c = next;
+            }
+            Step::Refused(answer) => {
+                return answer;
+            }
+        }
+    }
+    Answer::accepted(c.count as u32)
+}
+
+// Stores the three words of route i.
+fn put_words(list: &mut [u32], i: usize, r: Route)
+    requires { ⌜ i * 3 + 3 ≤ length (now list) ⌝ }
+    ensures { λ _. ⌜ now (list .exit) ≡ put3 (now (list .entry)) (i * 3) (r .value) (r .len) (r .port) ⌝ }
+{
+    let row = i * 3;
+    list[row] = r.value;
+    list[row + 1] = r.len;
+    list[row + 2] = r.port;
+}
+
+// Writes the routes of a file that the check accepts.
+fn fill_list(file: &[u8], list: &mut [u32], n: usize)
+    requires { ⌜ FitsList 32 (now file) (now list) n ⌝ }
+    ensures { λ _. ⌜ now (list .exit) ≡ over (listOfRoutes (fileRoute 32 (now (file .entry))) n) (now (list .entry)) ⌝ }
+{
+    let mut at = HEAD_SIZE;
+    let mut i: usize = 0;
+    while i < n {
+        let x = read_at(file, at);
+        let r = x.route;
+        put_words(list, i, r);
+        at += prefix_bytes(r.len) + 3;
+        i += 1;
+    }
+}
+
+// Reads a route file into a list; answers how many routes. Refuses 1, 2, 3 (size) at place 0; then the first route that is at
+// fault, at the offset of its first byte, with its first fault of 8, 4, 3 (cut), 5, 6, 7; last 9, the list is too short.
+pub fn read_file(file: &[u8], list: &mut [u32]) -> Answer
+    ensures { λ r. ⌜ outcome r (now (list .exit)) ≡ readFile 32 (now (file .entry)) (now (list .entry)) ⌝ }
+{
+    let checked = check_file(file);
+    if checked.number != 0 {
+        return checked;
+    }
+    let n = checked.count as usize;
+    if list.len() / 3 < n {
+        return Answer::refused(NO_ROOM, 0);
+    }
+    fill_list(file, list, n);
+    checked
+}

@@ -1,0 +1,174 @@
+// One step of the reader at a cursor: the route with the cursor after it, or the refusal with its place.
+ghost use mathlib.Core.Path.{_≡_};
+ghost use mathlib.Core.Bool.{_||_};
+ghost use Prim.Native.Nat.{_+_, _≤_, _<_};
+ghost use lib.Dec.{eqb};
+ghost use lib.ListN.{length};
+ghost use Rattle.bits.specs.Prefix.{precedes};
+ghost use Rattle.file_rules.specs.File.{prefixBytes, lenAt, valueFrom, portFrom, spare, readAt};
+ghost use Rattle.file_rules.specs.Check.{frameFault, contentFault, Entire};
+ghost use Rattle.file_read.specs.Step.{stepAt};
+ghost use Rattle.file_read.specs.Parts.{ByteIs, NumberAt, Standing};
+use file_rules::Spared;
+use file_rules::prefix_bytes;
+use prefix::Prefix;
+use routes::Answer;
+use routes::Route;
+use routes::is_port;
+use routes::refusal::LONG_PREFIX;
+use routes::refusal::MOST_ROUTES;
+use routes::refusal::NOT_ABOVE;
+use routes::refusal::SPARE_BITS;
+use routes::refusal::TOO_MANY_ROUTES;
+use routes::refusal::WRONG_PORT;
+use routes::refusal::WRONG_SIZE;
+
+// Where the reader stands: the offset of the next route, its number from 0, and the prefix of the route before it.
+pub struct Cursor {
+    pub at: usize,
+    pub count: usize,
+    pub value: u32,
+    pub len: u32,
+}
+
+// What a step of the reader answers: the route with the cursor after it, or the refusal with its place.
+pub enum Step {
+    Took(Route, Cursor),
+    Refused(Answer),
+}
+
+// A byte as a number.
+fn wide(b: u8) -> u64
+    ensures { λ r. ⌜ ByteIs b r ⌝ }
+{
+    b as u64
+}
+
+// The number that k bytes write, big-endian.
+pub(crate) fn number_at(file: &[u8], from: usize, k: usize) -> u64
+    requires { ⌜ (from + k ≤ length (now file)) × (k ≤ 4) ⌝ }
+    ensures { λ r. ⌜ NumberAt (now (file .entry)) from k r ⌝ }
+{
+    let mut sum: u64 = 0;
+    let mut j: usize = 0;
+    while j < k {
+        sum = sum * 256 + wide(file[from + j]);
+        j += 1;
+    }
+    sum
+}
+
+// The length byte of the route at an offset.
+fn length_at(file: &[u8], at: usize) -> u32
+    requires { ⌜ at < length (now file) ⌝ }
+    ensures { λ r. ⌜ ByteIs (lenAt (now (file .entry)) at) r ⌝ }
+{
+    wide(file[at]) as u32
+}
+
+// The value of a prefix from its bytes.
+fn value_from(file: &[u8], from: usize, len: u32) -> u32
+    requires { ⌜ (from + prefixBytes len ≤ length (now file)) × (len ≤ 32) ⌝ }
+    ensures { λ r. ⌜ r ≡ valueFrom 32 (now (file .entry)) from len ⌝ }
+{
+    let k = prefix_bytes(len);
+    let high = number_at(file, from, k);
+    let gap = 32 - 8 * k;
+    (high << gap) as u32
+}
+
+// The port from its two bytes.
+fn port_from(file: &[u8], from: usize) -> u32
+    requires { ⌜ from + 2 ≤ length (now file) ⌝ }
+    ensures { λ r. ⌜ r ≡ portFrom (now (file .entry)) from ⌝ }
+{
+    number_at(file, from, 2) as u32
+}
+
+// What becomes of a route with bits set past its length: it stays as it is, and is not fine. Nothing else decides it.
+fn spare(route: Route) -> Spared
+    ensures { λ r. ⌜ r ≡ spare 32 route ⌝ }
+{
+    let fine = Prefix::new(route.value, route.len).is_clear();
+    Spared { route, fine }
+}
+
+// The route at an offset, where a whole one stands.
+pub(crate) fn read_at(file: &[u8], at: usize) -> Spared
+    requires { ⌜ Entire 32 (now file) at ⌝ }
+    ensures { λ r. ⌜ r ≡ readAt 32 (now (file .entry)) at ⌝ }
+{
+    let len = length_at(file, at);
+    let value = value_from(file, at + 1, len);
+    let port = port_from(file, at + 1 + prefix_bytes(len));
+    spare(Route { value, len, port })
+}
+
+// What keeps route i from being read, 0 if nothing does: 8, it is one too many; 4, its length is above 32; 3, it is cut.
+fn frame_fault(file: &[u8], i: usize, at: usize) -> u32
+    requires { ⌜ at < length (now file) ⌝ }
+    ensures { λ r. ⌜ r ≡ frameFault 32 (now (file .entry)) i at 0 ⌝ }
+{
+    if MOST_ROUTES <= i {
+        return TOO_MANY_ROUTES;
+    }
+    let len = length_at(file, at);
+    if 32 < len {
+        return LONG_PREFIX;
+    }
+    if file.len() < at + (prefix_bytes(len) + 3) {
+        WRONG_SIZE
+    } else {
+        0
+    }
+}
+
+// What is wrong with a route that was read, 0 if nothing is: 5, bits past its length; 6, its port; 7, not above the one before.
+fn content_fault(x: Spared, rises: bool) -> u32
+    ensures { λ r. ⌜ r ≡ contentFault x rises ⌝ }
+{
+    if x.fine {
+        let route = x.route;
+        if is_port(route.port) {
+            if rises { 0 } else { NOT_ABOVE }
+        } else {
+            WRONG_PORT
+        }
+    } else {
+        SPARE_BITS
+    }
+}
+
+// Whether a route is above the one before the cursor; the first is.
+fn rises_after(c: Cursor, r: Route) -> bool
+    ensures { λ b. ⌜ b ≡ (eqb (c .count) 0 || precedes (c .value) (c .len) (r .value) (r .len)) ⌝ }
+{
+    (c.count == 0) | Prefix::new(c.value, c.len).precedes(Prefix::new(r.value, r.len))
+}
+
+// The route at the cursor and the cursor after it, or its first fault at the offset of its first byte.
+pub(crate) fn step_at(file: &[u8], c: Cursor) -> Step
+    requires { ⌜ Standing 32 (now file) c ⌝ }
+    ensures { λ r. ⌜ r ≡ stepAt 32 (now (file .entry)) c ⌝ }
+{
+    let at = c.at;
+    let frame = frame_fault(file, c.count, at);
+    if frame != 0 {
+        return Step::Refused(Answer::refused(frame, at as u32));
+    }
+    let x = read_at(file, at);
+    let r = x.route;
+    let fault = content_fault(x, rises_after(c, r));
+    if fault != 0 {
+        return Step::Refused(Answer::refused(fault, at as u32));
+    }
+    Step::Took(
+        r,
+        Cursor {
+            at: at + (prefix_bytes(r.len) + 3),
+            count: c.count + 1,
+            value: r.value,
+            len: r.len,
+        },
+    )
+}

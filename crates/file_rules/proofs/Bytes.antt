@@ -1,0 +1,80 @@
+-- Numbers and their bytes, both ways. Assumes nothing.
+use mathlib.Core.Path.{_≡_, refl, sym, ap, ap₂, _∙_}
+use mathlib.Core.List.{List, [], _∷_, _++_}
+use Prim.Native.Nat.{ℕ, zero, suc, _+_, _*_, _/_, _%_, _^_, _≤_, _<_}
+use native.Mathlib.Omega.{arith}
+use native.Mathlib.Nat.{add-mul, mul-assoc, mul-le-mul-right, suc-mul, mod-eq-of-lt}
+use lib.Pow.{pow-add, mod-pow-add, field, mod-mod-pow, high, low}
+use lib.ListN.{length, take, drop, length-append}
+use lib.Seq.{getD-drop}
+use Rattle.file_rules.specs.Bytes.{number, digits, Bytes}
+
+eight : (k : ℕ) → 8 * suc k ≡ 8 + 8 * k
+eight k = omega arith
+
+pub length-digits : (k x : ℕ) → length (digits k x) ≡ k
+unfolding digits
+length-digits zero x = refl
+length-digits (suc k) x = ap suc (length-digits k x)
+
+-- a part of bytes is bytes
+pub bytes-drop : (bs : List ℕ) (n : ℕ) → Bytes bs → Bytes (drop n bs)
+bytes-drop bs n h i = rw (getD-drop n bs i 0) (h (n + i))
+
+pub bytes-take : (n : ℕ) (bs : List ℕ) → Bytes bs → Bytes (take n bs)
+bytes-take zero bs h i = omega arith
+bytes-take (suc n) [] h i = omega arith
+bytes-take (suc n) (b ∷ bs) h zero = h 0
+bytes-take (suc n) (b ∷ bs) h (suc i) = bytes-take n bs (λ j. h (suc j)) i
+
+-- the number of a number's last bytes
+pub number-digits : (k x : ℕ) → number (digits k x) ≡ x % 2 ^ (8 * k)
+unfolding number digits
+number-digits zero x = omega arith
+number-digits (suc k) x = rw (length-digits k x, number-digits k x, eight k) (sym (mod-pow-add x 8 (8 * k)))
+
+-- one byte more at the end
+pub number-snoc : (bs : List ℕ) (b : ℕ) → number (bs ++ (b ∷ [])) ≡ number bs * 2 ^ 8 + b
+unfolding number
+number-snoc [] b = omega arith
+number-snoc (x ∷ bs) b =
+    let n = length bs in
+    let P = 2 ^ (8 * n) in
+    let z : 8 * (n + 1) ≡ 8 * n + 8 = omega arith in
+    let p : x * 2 ^ (8 * length (bs ++ (b ∷ []))) ≡ x * P * 2 ^ 8 =
+    ap (λ (k : ℕ). x * 2 ^ (8 * k)) (length-append bs (b ∷ [])) ∙ ap (λ (k : ℕ). x * 2 ^ k) z
+    ∙ ap (λ (k : ℕ). x * k) (pow-add 2 (8 * n) 8) ∙ sym (mul-assoc x P (2 ^ 8)) in
+    omega (arith, p, number-snoc bs b, add-mul (x * P) (number bs) (2 ^ 8))
+
+pub number-lt : (bs : List ℕ) → Bytes bs → number bs < 2 ^ (8 * length bs)
+unfolding number
+number-lt [] h = omega arith
+number-lt (b ∷ bs) h =
+    let P = 2 ^ (8 * length bs) in
+    let m : b * P + P ≤ 2 ^ 8 * P = rw (sym (suc-mul b P)) (mul-le-mul-right P (h 0)) in
+    rw (eight (length bs), pow-add 2 8 (8 * length bs)) (omega (arith, number-lt bs (λ j. h (suc j)), m))
+
+-- the last bytes of a number are those of its last bytes' number
+digits-mod : (k c x : ℕ) → digits k (x % 2 ^ (c + 8 * k)) ≡ digits k x
+unfolding digits
+digits-mod zero c x = refl
+digits-mod (suc k) c x =
+    let z : c + 8 * suc k ≡ c + 8 + 8 * k = omega arith in
+    rw z
+    (ap₂ (λ (b : ℕ) (bs : List ℕ). b ∷ bs)
+    (ap (λ (y : ℕ). y % 2 ^ 8) (field x (c + 8) (8 * k)) ∙ mod-mod-pow (x / 2 ^ (8 * k)) c 8)
+    (digits-mod k (c + 8) x))
+
+-- the bytes of their number
+pub digits-number : (bs : List ℕ) → Bytes bs → digits (length bs) (number bs) ≡ bs
+unfolding digits number
+digits-number [] h = refl
+digits-number (b ∷ bs) h =
+    let n = length bs in
+    let l = number-lt bs (λ j. h (suc j)) in
+    let x = b * 2 ^ (8 * n) + number bs in
+    let z : 0 + 8 * n ≡ 8 * n = omega arith in
+    let d : digits n x ≡ bs =
+    sym (digits-mod n 0 x) ∙ ap (λ (y : ℕ). digits n (x % 2 ^ y)) z ∙ ap (digits n) (low b (8 * n) l)
+    ∙ digits-number bs (λ j. h (suc j)) in
+    ap₂ (λ (y : ℕ) (ys : List ℕ). y ∷ ys) (ap (λ (y : ℕ). y % 2 ^ 8) (high b (8 * n) l) ∙ mod-eq-of-lt (h 0)) d

@@ -1,0 +1,10 @@
+-- Laws of the route file.
+pub mod Bytes
+pub mod InOrder
+pub mod Sound
+pub mod Walk
+pub mod Accepted
+pub mod Written
+pub mod Words
+pub mod Trips
+pub mod Unique

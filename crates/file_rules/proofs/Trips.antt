@@ -1,0 +1,138 @@
+-- The two round trips, the empty list, and that a refusal writes nothing: rules, "Reading a written file returns the same routes;
+-- writing what was read returns the same bytes". Assumes nothing.
+use mathlib.Core.Path.{_≡_, refl, sym, ap, _∙_}
+use mathlib.Core.Logic.{_⊎_, inl, inr}
+use mathlib.Core.Bool.{true, false}
+use mathlib.Core.List.{List, _++_}
+use Prim.Native.Nat.{ℕ, _+_, _*_, _≤_, _<_}
+use native.Mathlib.Omega.{arith}
+use lib.Dec.{eqb, leb}
+use lib.ListN.{length, take, drop}
+use lib.Seq.{take-at}
+use borrow.Author.Tests.{eq-eqb, ne-eqb, eqb-true, eqb-false, le-leb, lt-leb, leb-true, leb-false}
+use Rattle.lists.proofs.Tests.{way}
+use Rattle.promise.specs.Over.{over, Outcome, outcome}
+use Rattle.routes.specs.Refusals.{noRoom, refused, accepted}
+use Rattle.routes.specs.Routes.{routeAt, routeCount, ValidList}
+use Rattle.routes.specs.Check.{listCheck, routesCheck, firstFault}
+use Rattle.routes.specs.declared.Answer.{Answer}
+use Rattle.routes.specs.declared.Route.{Route}
+use Rattle.routes.proofs.Check.{accepted-sized, accepted-valid, check-done}
+use Rattle.file_rules.specs.Bytes.{number, digits}
+use Rattle.file_rules.specs.File.{fileRoute, inOrder, headOf, fileOf}
+use Rattle.file_rules.specs.Check.{headFault, checkFrom, fileCheck, Whole}
+use Rattle.file_rules.specs.Calls.{checkedThen, listOfRoutes, readFile, writeFile}
+use Rattle.file_rules.specs.Theorems.{ReadWritten, WriteRead, EmptyFile, RefusalWritesNothing}
+use Rattle.file_rules.proofs.InOrder.{in-order-same}
+use Rattle.file_rules.proofs.Walk.{check-whole, accepted-whole}
+use Rattle.file_rules.proofs.Accepted.{file-valid, file-same}
+use Rattle.file_rules.proofs.Written.{file-back}
+use Rattle.file_rules.proofs.Words.{length-list, count-list, route-in-list, list-same, words-list}
+
+-- the three answers of a call that checks and then writes
+module _ (checked : Answer) (out : List ℕ) (count : ℕ) (lent : List ℕ) where
+  pub checked-refused : (checked .number ≡ 0 → ⊥) → checkedThen checked out count lent ≡ outcome checked lent
+  unfolding checkedThen
+  checked-refused n = rw (ne-eqb (checked .number) 0 n)
+
+  pub checked-short : checked .number ≡ 0 → length lent < length out → checkedThen checked out count lent ≡ outcome (refused noRoom 0) lent
+  unfolding checkedThen
+  checked-short z h = rw (eq-eqb (checked .number) 0 z, lt-leb (length out) (length lent) h)
+
+  pub checked-done : checked .number ≡ 0 → length out ≤ length lent
+      → checkedThen checked out count lent ≡ outcome (accepted count) (over out lent)
+  unfolding checkedThen
+  checked-done z h = rw (eq-eqb (checked .number) 0 z, le-leb (length out) (length lent) h)
+
+  -- done only where the check accepts and there is room
+  pub done-checked : checkedThen checked out count lent .answer .number ≡ 0 → (checked .number ≡ 0) × (length out ≤ length lent)
+  done-checked e = go (way (eqb (checked .number) 0)) (way (leb (length out) (length lent)))
+    where
+      go : (eqb (checked .number) 0 ≡ true) ⊎ (eqb (checked .number) 0 ≡ false)
+          → (leb (length out) (length lent) ≡ true) ⊎ (leb (length out) (length lent) ≡ false)
+          → (checked .number ≡ 0) × (length out ≤ length lent)
+      go (inl s) (inl t) = (eqb-true (checked .number) 0 s, leb-true (length out) (length lent) t)
+      go (inl s) (inr t) =
+          absurd (omega (arith, ap (λ (o : Outcome Answer). o .answer .number) (checked-short (eqb-true (checked .number) 0 s) (leb-false (length out) (length lent) t)), e))
+      go (inr s) t =
+          let n = eqb-false (checked .number) 0 s in
+          absurd (n (sym (ap (λ (o : Outcome Answer). o .answer .number) (checked-refused n)) ∙ e))
+
+  pub refused-writes-nothing : (checkedThen checked out count lent .answer .number ≡ 0 → ⊥) → checkedThen checked out count lent .lent ≡ lent
+  refused-writes-nothing n = go (way (eqb (checked .number) 0)) (way (leb (length out) (length lent)))
+    where
+      go : (eqb (checked .number) 0 ≡ true) ⊎ (eqb (checked .number) 0 ≡ false)
+          → (leb (length out) (length lent) ≡ true) ⊎ (leb (length out) (length lent) ≡ false)
+          → checkedThen checked out count lent .lent ≡ lent
+      go (inl s) (inl t) =
+          absurd (n (ap (λ (o : Outcome Answer). o .answer .number) (checked-done (eqb-true (checked .number) 0 s) (leb-true (length out) (length lent) t))))
+      go (inl s) (inr t) =
+          ap (λ (o : Outcome Answer). o .lent) (checked-short (eqb-true (checked .number) 0 s) (leb-false (length out) (length lent) t))
+      go (inr s) t = ap (λ (o : Outcome Answer). o .lent) (checked-refused (eqb-false (checked .number) 0 s))
+
+pub refusal-writes-nothing : RefusalWritesNothing
+unfolding readFile writeFile
+refusal-writes-nothing w from lent = (refused-writes-nothing _ _ _ lent, refused-writes-nothing _ _ _ lent)
+
+pub empty-file : EmptyFile
+unfolding checkedThen readFile writeFile fileCheck headFault checkFrom number digits inOrder listCheck routesCheck firstFault
+empty-file w lent = (rw (le-leb 0 (length lent) (omega arith)), λ room. rw (le-leb 5 (length lent) room))
+
+-- the output that was written, taken out again
+taken-out : (out lent : List ℕ) (n : ℕ) → length out ≡ n → take n (over out lent) ≡ out
+taken-out out lent n l = take-at out (drop (length out) lent) n l
+
+-- routes that agree are valid together
+valid-same : (w : ℕ) (R Q : ℕ → Route) (n : ℕ) → ((i : ℕ) → i < n → Q i ≡ R i) → ValidList w R n → ValidList w Q n
+valid-same w R Q n same ok = record {
+  few = ok .few;
+  each = λ i h. rw (same i h) (ok .each i h);
+  rises = λ i h. rw (same i (omega arith), same (i + 1) h) (ok .rises i h);
+}
+
+-- a whole file that is read where there is room
+pub read-whole : (w : ℕ) (file lent : List ℕ) (n : ℕ) → Whole w file n → n * 3 ≤ length lent
+    → readFile w file lent ≡ outcome (accepted n) (over (listOfRoutes (fileRoute w file) n) lent)
+unfolding readFile
+read-whole w file lent n ok room =
+    rw (check-whole w file n ok)
+    (checked-done (accepted n) (listOfRoutes (fileRoute w file) n) n lent refl (omega (arith, length-list (fileRoute w file) n)))
+
+-- a list whose file is known, written where there is room
+pub write-done : (w : ℕ) (list file lent : List ℕ) → listCheck w list .number ≡ 0 → fileOf w (routeAt list) (routeCount list) ≡ file
+    → length file ≤ length lent → writeFile w list lent ≡ outcome (accepted (length file)) (over file lent)
+unfolding writeFile
+write-done w list file lent z out room =
+    ap (λ (f : List ℕ). checkedThen (listCheck w list) f (length f) lent) out
+    ∙ checked-done (listCheck w list) file (length file) lent z room
+
+pub read-written : ReadWritten
+unfolding writeFile
+read-written w list file lent wide fits e room =
+    let n = routeCount list in
+    let out = fileOf w (routeAt list) n in
+    let d = done-checked (listCheck w list) out (length out) file e in
+    let whole = accepted-sized w list (d .0) .whole in
+    let back = file-back w (routeAt list) n wide (accepted-valid w list fits (d .0)) in
+    rw (checked-done (listCheck w list) out (length out) file (d .0) (d .1), taken-out out file (length out) refl)
+    (read-whole w out lent n (back .0) (omega arith)
+    ∙ ap (λ (l : List ℕ). outcome (accepted n) (over l lent)) (in-order-same _ _ _ n (back .1) ∙ list-same list whole))
+
+pub write-read : WriteRead
+unfolding readFile
+write-read w file list lent wide bytes e room =
+    let n = fileCheck w file .count in
+    let R = fileRoute w file in
+    let words = listOfRoutes R n in
+    let d = done-checked (fileCheck w file) words n list e in
+    let ok = accepted-whole w file (d .0) in
+    let valid = file-valid w file n wide bytes ok in
+    let same : ((i : ℕ) → i < n → routeAt words i ≡ R i) = route-in-list R n in
+    let fits = words-list w R n wide (valid .each) in
+    let count : routeCount words ≡ n = count-list R n in
+    let checked : listCheck w words ≡ accepted 0 =
+    check-done w words fits .1 (omega (arith, length-list R n), rw count (valid-same w R (routeAt words) n same valid)) in
+    let out : fileOf w (routeAt words) (routeCount words) ≡ file =
+    rw count (ap (λ (b : List ℕ). headOf (length b) ++ b) (in-order-same _ _ _ n same) ∙ file-same w file n bytes ok) in
+    rw (checked-done (fileCheck w file) words n list (d .0) (d .1), taken-out words list (n * 3) (length-list R n))
+    (write-done w words file lent (ap (λ (a : Answer). a .number) checked) out room)

@@ -1,0 +1,102 @@
+-- Defines the route file of w-bit addresses, which route stands where in its bytes, and the bytes of a list's routes: rules,
+-- "The route file". Assumes nothing.
+use mathlib.Core.Path.{_≡_}
+use mathlib.Core.List.{List, [], _∷_, _++_}
+use Prim.Native.Nat.{ℕ, zero, suc, _+_, _-_, _*_, _/_, _^_, _<_, _%_, _≤_}
+use lib.ListN.{length, getD, take, drop}
+use Rattle.bits.specs.Prefix.{clear}
+use Rattle.routes.specs.Routes.{route}
+use Rattle.routes.specs.declared.Route.{Route}
+use Rattle.file_rules.specs.Bytes.{number, digits}
+use Rattle.file_rules.specs.declared.Spared.{Spared}
+
+-- "Byte 0 is the version, 1."
+abbrev pub version : ℕ
+version = 1
+
+-- the version byte and the four of the size come before the routes
+abbrev pub headSize : ℕ
+headSize = 5
+
+-- "Bytes 1..4 are the number of bytes after them, big-endian."
+abbrev pub statedSize : List ℕ → ℕ
+statedSize file = number (take 4 (drop 1 file))
+
+-- "the fewest bytes that hold that many bits". "A /0 has no prefix byte."
+abbrev pub prefixBytes : ℕ → ℕ
+prefixBytes len = (len + 7) / 8
+
+-- r is how many bytes hold a prefix, with the bound that callers want
+pub record BytesFor (len r : ℕ) : Type 0 where
+  pub is : r ≡ prefixBytes len
+  pub small : r < 2 ^ 30
+
+-- the bytes of a route: "one byte prefix length in bits, the fewest bytes that hold that many bits, two bytes port"
+abbrev pub sizeFor : ℕ → ℕ
+sizeFor len = prefixBytes len + 3
+
+-- the bits of an address that the bytes of a prefix leave out
+abbrev pub bitsAfter : ℕ → ℕ → ℕ
+bitsAfter w len = w - 8 * prefixBytes len
+
+-- reading: the route whose first byte is at an offset
+
+-- "one byte prefix length in bits"
+abbrev pub lenAt : List ℕ → ℕ → ℕ
+lenAt file at = getD file at 0
+
+-- the bytes of a prefix are the first bits of its value
+abbrev pub valueFrom : ℕ → List ℕ → ℕ → ℕ → ℕ
+valueFrom w file from len = number (take (prefixBytes len) (drop from file)) * 2 ^ bitsAfter w len
+
+-- "two bytes port, big-endian"
+abbrev pub portFrom : List ℕ → ℕ → ℕ
+portFrom file from = number (take 2 (drop from file))
+
+-- "Unused low bits of the last prefix byte are zero": the one place that says what becomes of a route with such bits set
+abbrev pub spare : ℕ → Route → Spared
+spare w r = record { route = r; fine = clear w (r .value) (r .len) }
+
+unfoldable pub readAt : ℕ → List ℕ → ℕ → Spared
+readAt w file at =
+    spare w
+    (route (valueFrom w file (at + 1) (lenAt file at)) (lenAt file at) (portFrom file (at + 1 + prefixBytes (lenAt file at))))
+
+-- "Then the routes in list order": the offset of route i's first byte
+unfoldable pub placeOf : List ℕ → ℕ → ℕ
+placeOf file zero = headSize
+placeOf file (suc i) = placeOf file i + sizeFor (lenAt file (placeOf file i))
+
+-- route i of a file
+abbrev pub fileRoute : ℕ → List ℕ → ℕ → Route
+fileRoute w file i = readAt w file (placeOf file i) .route
+
+-- writing
+
+-- what the first n routes give, one after the other
+unfoldable pub inOrder : (Route → List ℕ) → (ℕ → Route) → ℕ → List ℕ
+inOrder f R zero = []
+inOrder f R (suc i) = inOrder f R i ++ f (R i)
+
+-- "one byte prefix length in bits, the fewest bytes that hold that many bits, two bytes port, big-endian"
+abbrev pub routeBytes : ℕ → Route → List ℕ
+routeBytes w r =
+    (r .len ∷ []) ++ digits (prefixBytes (r .len)) (r .value / 2 ^ bitsAfter w (r .len)) ++ digits 2 (r .port)
+
+-- "Then the routes in list order"
+abbrev pub bodyOf : ℕ → (ℕ → Route) → ℕ → List ℕ
+bodyOf w R n = inOrder (routeBytes w) R n
+
+-- "Byte 0 is the version, 1. Bytes 1..4 are the number of bytes after them, big-endian."
+abbrev pub headOf : ℕ → List ℕ
+headOf size = version ∷ digits 4 size
+
+-- the file of the first n routes
+abbrev pub fileOf : ℕ → (ℕ → Route) → ℕ → List ℕ
+fileOf w R n = headOf (length (bodyOf w R n)) ++ bodyOf w R n
+
+-- a width that a file can hold: whole bytes, lengths that fit one byte, words that hold the two bytes of a port
+pub record FileWidth (w : ℕ) : Type 0 where
+  pub whole : w % 8 ≡ 0
+  pub short : w < 2 ^ 8
+  pub ported : 16 ≤ w

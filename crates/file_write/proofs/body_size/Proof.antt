@@ -1,0 +1,64 @@
+use Prim.Native.Nat.{_-_}
+use native.Mathlib.Omega.{arith}
+use borrow.Author.Needs.{needs}
+use Rattle.file_write.proofs.Bodies.{Summed, summed-none, summed-small, summed-more, summed-all}
+use Rattle.file_write.proofs.body_size.Statement.{statement}
+use Rattle.file_write.proofs.body_size.Tie as tie
+
+abbrev Inv-loop : tie.InvT-loop
+Inv-loop list n size₀ i₀ size i = Summed 32 list size i
+
+abbrev μ-loop : tie.MeasureT-loop
+μ-loop list n size₀ i₀ size i = n - i
+
+loop-holds : tie.Need-loop-holds Inv-loop μ-loop
+loop-holds c = summed-none 32 (c .before .args .list .now)
+
+route-at-requires : tie.Need-route-at-requires Inv-loop μ-loop
+route-at-requires c κs = search needs
+
+prefix-bytes-requires : tie.Need-prefix-bytes-requires Inv-loop μ-loop
+prefix-bytes-requires c κs = search needs
+
+add-size : tie.Need-add-size Inv-loop μ-loop
+add-size c = search needs
+
+add-size-2 : tie.Need-add-size-2 Inv-loop μ-loop
+add-size-2 c =
+    let l = c .before .before .before in
+    let s = l .before .before in
+    omega (arith, summed-small 32 (s .args .list .now) (s .pre) _ _ (l .loop .inv), c .prefix-bytes .ensures .small)
+
+add-i : tie.Need-add-i Inv-loop μ-loop
+add-i c = omega arith
+
+loop-less : tie.Need-loop-less Inv-loop μ-loop
+loop-less c = omega arith
+
+loop-again : tie.Need-loop-again Inv-loop μ-loop
+loop-again c =
+    let l = c .before .before .before in
+    let s = l .before .before in
+    summed-more 32 (s .args .list .now) (s .pre) _ _ (l .loop .inv) (c .before .before .loop-test .taken) _ _ (c .before .route-at .ensures) (c .prefix-bytes .ensures .is)
+
+returns : tie.Need-returns Inv-loop μ-loop
+returns c =
+    let l = c .before in
+    let s = l .before .before in
+    summed-all 32 (s .args .list .now) (s .pre) _ _ (l .loop .inv) (c .loop-test .left)
+
+pub body-size-spec : {M : Type 1} → statement M
+body-size-spec =
+    tie.close
+    (tie.spec
+    Inv-loop
+    μ-loop
+    loop-holds
+    route-at-requires
+    prefix-bytes-requires
+    add-size
+    add-size-2
+    add-i
+    loop-less
+    loop-again
+    returns)

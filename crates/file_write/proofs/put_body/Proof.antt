@@ -1,0 +1,81 @@
+use Prim.Native.Nat.{_-_}
+use native.Mathlib.Omega.{arith}
+use borrow.Author.Needs.{needs}
+use Rattle.file_write.proofs.Bodies.{Bodied, bodied-none, bodied-room, bodied-next, bodied-more, bodied-all}
+use Rattle.file_write.proofs.put_body.Statement.{statement}
+use Rattle.file_write.proofs.put_body.Tie as tie
+
+abbrev Inv-loop : tie.InvT-loop
+Inv-loop list file₀ n at₀ i₀ file at i = Bodied 32 list file₀ file at i
+
+abbrev μ-loop : tie.MeasureT-loop
+μ-loop list file₀ n at₀ i₀ file at i = n - i
+
+loop-holds : tie.Need-loop-holds Inv-loop μ-loop
+loop-holds c =
+    let a = c .before .before .args in
+    bodied-none 32 (a .list .now) (a .file .now)
+
+route-at-requires : tie.Need-route-at-requires Inv-loop μ-loop
+route-at-requires c κs = search needs
+
+put-bytes-requires : tie.Need-put-bytes-requires Inv-loop μ-loop
+put-bytes-requires c κs =
+    let x = c .before in
+    let l = x .before .before in
+    let s = l .before .before .before in
+    bodied-room 32 (s .args .list .now) (s .args .file .now) (s .pre) _ _ _ (l .loop .inv) (x .before .loop-test .taken) _ (x .route-at .ensures)
+
+prefix-bytes-requires : tie.Need-prefix-bytes-requires Inv-loop μ-loop
+prefix-bytes-requires c κs = search needs
+
+add-at : tie.Need-add-at Inv-loop μ-loop
+add-at c = search needs
+
+add-at-2 : tie.Need-add-at-2 Inv-loop μ-loop
+add-at-2 c =
+    let x = c .before .before .before .before .before in
+    let l = x .before .before in
+    let s = l .before .before .before in
+    omega (arith, bodied-next 32 (s .args .list .now) (s .args .file .now) (s .pre) _ _ _ (l .loop .inv) (x .before .loop-test .taken) _ _ (x .route-at .ensures) (c .prefix-bytes .ensures .is), l .loop .inv .same)
+
+add-i : tie.Need-add-i Inv-loop μ-loop
+add-i c = omega arith
+
+loop-less : tie.Need-loop-less Inv-loop μ-loop
+loop-less c = omega arith
+
+loop-again : tie.Need-loop-again Inv-loop μ-loop
+loop-again c =
+    let p = c .before .before .before in
+    let x = p .before .before in
+    let l = x .before .before in
+    let s = l .before .before .before in
+    bodied-more 32 (s .args .list .now) (s .args .file .now) (s .pre) _ _ _ (l .loop .inv) (x .before .loop-test .taken) _ _ _ (x .route-at .ensures) (c .prefix-bytes .ensures .is) (p .put-bytes .ensures)
+
+same-length : tie.Need-same-length Inv-loop μ-loop
+same-length c = c .before .loop .inv .same
+
+returns : tie.Need-returns Inv-loop μ-loop
+returns c =
+    let l = c .before in
+    let s = l .before .before .before in
+    bodied-all 32 (s .args .list .now) (s .args .file .now) (s .pre) _ _ _ (l .loop .inv) (c .loop-test .left)
+
+pub put-body-spec : {M : Type 1} → statement M
+put-body-spec =
+    tie.close
+    (tie.spec
+    Inv-loop
+    μ-loop
+    loop-holds
+    route-at-requires
+    put-bytes-requires
+    prefix-bytes-requires
+    add-at
+    add-at-2
+    add-i
+    loop-less
+    loop-again
+    same-length
+    returns)

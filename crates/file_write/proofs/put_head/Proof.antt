@@ -1,0 +1,27 @@
+use mathlib.Core.Path.{ap, _∙_}
+use lib.ListN.{length}
+use Rattle.file_write.proofs.Stored.{head-stored, length-over-head}
+use borrow.Author.Needs.{needs}
+use Rattle.file_write.proofs.put_head.Statement.{statement}
+use Rattle.file_write.proofs.put_head.Tie as tie
+
+slice-write-file : tie.Need-slice-write-file
+slice-write-file c = search needs
+
+put-number-requires : tie.Need-put-number-requires
+put-number-requires c κs = search needs
+
+same-length : tie.Need-same-length
+same-length c =
+    let p = c .before .before in
+    let s = p .before .before .before in
+    ap length (head-stored (s .args .file .now) _ (s .args .size) (s .pre) (p .put-number .ensures)) ∙ length-over-head (s .args .file .now) (s .args .size) (s .pre)
+
+returns : tie.Need-returns
+returns c =
+    let p = c .before .before in
+    let s = p .before .before .before in
+    head-stored (s .args .file .now) _ (s .args .size) (s .pre) (p .put-number .ensures)
+
+pub put-head-spec : {M : Type 1} → statement M
+put-head-spec = tie.close (tie.spec slice-write-file put-number-requires same-length returns)

@@ -1,0 +1,237 @@
+// The image's lookup, on whatever words and ports are lent: at most 32 / stride nodes are read.
+ghost use mathlib.Core.Path.{_≡_};
+ghost use Prim.Native.Nat.{_+_, _^_, _≤_, _<_};
+ghost use lib.Dec.{eqb};
+ghost use Rattle.bits.specs.Bitmap.{slotBit, onesBefore};
+ghost use Rattle.image_rules.specs.Node.{nodeCount, bitmapOf, offsetOf, baseOf};
+ghost use Rattle.image_rules.specs.Lookup.{answered, refusedAt, leafAt, lookupWords};
+ghost use Rattle.image_lookup.specs.Found.{foundOf, Stride, Lent, InSlots};
+use routes::refusal::LAST_PORT;
+use routes::refusal::NOT_IN_ORDER;
+use routes::refusal::WRONG_STRIDE;
+
+// A node number, a distance and a leaf number are kept apart, as the sources keep apart a location and an offset.
+pub struct Node(pub usize);
+
+pub struct Distance(pub usize);
+
+pub struct Leaf(pub usize);
+
+// What a lookup answers: the refusal's number, 0 if it is done; the port; the nodes read.
+pub struct Found {
+    pub number: u32,
+    pub port: u32,
+    pub reads: u32,
+}
+
+impl Node {
+    // Nodes are numbered from 1, the root first.
+    pub const ROOT: Node = Node(1);
+
+    // The one sum that the rules allow: a distance added to a node number gives a node number.
+    fn plus(self, distance: Distance) -> Node
+        requires { ⌜ self .0 + distance .0 < 2 ^ 64 ⌝ }
+        ensures { λ r. ⌜ r .0 ≡ self .0 + distance .0 ⌝ }
+    {
+        Node(self.0 + distance.0)
+    }
+}
+
+impl Leaf {
+    // The leaf that comes so many leaves after this one. A count of leaves is none of the three kinds of number.
+    fn after(self, count: usize) -> Leaf
+        requires { ⌜ self .0 + count < 2 ^ 64 ⌝ }
+        ensures { λ r. ⌜ r .0 ≡ self .0 + count ⌝ }
+    {
+        Leaf(self.0 + count)
+    }
+}
+
+impl Found {
+    fn answered(port: u32, reads: u32) -> Self
+        ensures { λ r. ⌜ r ≡ foundOf (answered port reads) ⌝ }
+    {
+        Self {
+            number: 0,
+            port,
+            reads,
+        }
+    }
+
+    fn refused(number: u32, reads: u32) -> Self
+        ensures { λ r. ⌜ r ≡ foundOf (refusedAt number reads) ⌝ }
+    {
+        Self {
+            number,
+            port: 0,
+            reads,
+        }
+    }
+}
+
+fn wide(x: u32) -> usize
+    ensures { λ r. ⌜ (r ≡ x) × (r < 2 ^ 32) ⌝ }
+{
+    x as usize
+}
+
+fn word(x: u16) -> u32
+    ensures { λ r. ⌜ r ≡ x ⌝ }
+{
+    x as u32
+}
+
+// The whole nodes lent. This and the next three say where a node's words are, and nothing else does.
+fn node_count(nodes: &[u32]) -> usize
+    ensures { λ r. ⌜ r ≡ nodeCount (now (nodes .entry)) ⌝ }
+{
+    nodes.len() / 3
+}
+
+fn bitmap_of(nodes: &[u32], at: Node) -> u32
+    requires { ⌜ Lent (now nodes) (at .0) ⌝ }
+    ensures { λ r. ⌜ r ≡ bitmapOf (now (nodes .entry)) (at .0) ⌝ }
+{
+    let a = at.0;
+    nodes[(a - 1) * 3]
+}
+
+fn offset_of(nodes: &[u32], at: Node) -> Distance
+    requires { ⌜ Lent (now nodes) (at .0) ⌝ }
+    ensures { λ r. ⌜ (r .0 ≡ offsetOf (now (nodes .entry)) (at .0)) × (r .0 < 2 ^ 32) ⌝ }
+{
+    let a = at.0;
+    Distance(wide(nodes[(a - 1) * 3 + 1]))
+}
+
+fn base_of(nodes: &[u32], at: Node) -> Leaf
+    requires { ⌜ Lent (now nodes) (at .0) ⌝ }
+    ensures { λ r. ⌜ (r .0 ≡ baseOf (now (nodes .entry)) (at .0)) × (r .0 < 2 ^ 32) ⌝ }
+{
+    let a = at.0;
+    Leaf(wide(nodes[(a - 1) * 3 + 2]))
+}
+
+// The number of ones in the slots before slot j: the count of ones of the bitmap's part before it.
+fn ones_before(slots: u32, bitmap: u32, j: u32) -> u32
+    requires { ⌜ InSlots slots bitmap j ⌝ }
+    ensures { λ r. ⌜ r ≡ onesBefore slots bitmap j ⌝ }
+{
+    u32::count_ones(bitmap >> (slots - j))
+}
+
+fn is_leaf(slots: u32, bitmap: u32, j: u32) -> bool
+    requires { ⌜ InSlots slots bitmap j ⌝ }
+    ensures { λ r. ⌜ r ≡ eqb (slotBit slots bitmap j) 1 ⌝ }
+{
+    (bitmap >> (slots - 1 - j)) % 2 == 1
+}
+
+// What leaf number `leaf` answers. Refuses 11 where it is past the ports lent or its port is above 4094.
+fn port_at(ports: &[u16], leaf: Leaf, reads: u32) -> Found
+    ensures { λ r. ⌜ r ≡ foundOf (leafAt (now (ports .entry)) (leaf .0) reads) ⌝ }
+{
+    let at = leaf.0;
+    if ports.len() <= at {
+        return Found::refused(NOT_IN_ORDER, reads);
+    }
+    let port = word(ports[at]);
+    if LAST_PORT < port {
+        return Found::refused(NOT_IN_ORDER, reads);
+    }
+    Found::answered(port, reads)
+}
+
+// On a leaf: its number is leaf base plus the ones before its slot.
+fn leaf_of(nodes: &[u32], at: Node, ones: u32) -> Leaf
+    requires { ⌜ Lent (now nodes) (at .0) ⌝ }
+    ensures { λ r. ⌜ r .0 ≡ baseOf (now (nodes .entry)) (at .0) + ones ⌝ }
+{
+    base_of(nodes, at).after(wide(ones))
+}
+
+// Else: the child's number is the node's plus offset plus the zeros before its slot.
+fn child_of(nodes: &[u32], at: Node, zeros: u32) -> Node
+    requires { ⌜ Lent (now nodes) (at .0) ⌝ }
+    ensures { λ r. ⌜ r .0 ≡ at .0 + offsetOf (now (nodes .entry)) (at .0) + zeros ⌝ }
+{
+    let first = at.plus(offset_of(nodes, at));
+    first.plus(Distance(wide(zeros)))
+}
+
+// 2^stride, the slots of a node.
+fn slots_of(stride: u32) -> u32
+    requires { ⌜ stride ≤ 4 ⌝ }
+    ensures { λ r. ⌜ (r ≡ 2 ^ stride) × (0 < r) × (r < 32) ⌝ }
+{
+    1u32 << stride
+}
+
+// The walk down from the root. No node has the number 0: the root's is 1, and distances are only added to it.
+fn descend(stride: u32, nodes: &[u32], ports: &[u16], address: u32) -> Found
+    requires { ⌜ Stride stride ⌝ }
+    ensures { λ r. ⌜ r ≡ foundOf (lookupWords 32 stride (now (nodes .entry)) (now (ports .entry)) address) ⌝ }
+{
+    let slots = slots_of(stride);
+    let mut left = 32 / stride;
+    let mut at = Node::ROOT;
+    let mut reads = 0;
+    while 0 < left {
+        left -= 1;
+        if node_count(nodes) < at.0 {
+            return Found::refused(NOT_IN_ORDER, reads);
+        }
+        reads += 1;
+        let bitmap = bitmap_of(nodes, at);
+        if bitmap >> slots != 0 {
+            return Found::refused(NOT_IN_ORDER, reads);
+        }
+        let j = (address >> (stride * left)) % slots;
+        let ones = ones_before(slots, bitmap, j);
+        if is_leaf(slots, bitmap, j) {
+            return port_at(ports, leaf_of(nodes, at, ones), reads);
+        }
+        at = child_of(nodes, at, j - ones);
+    }
+    // A non-leaf at the last depth.
+    Found::refused(NOT_IN_ORDER, reads)
+}
+
+// The lookup at stride 1. Refuses 11 at place 0, with the nodes read so far.
+pub fn lookup_1(nodes: &[u32], ports: &[u16], address: u32) -> Found
+    ensures { λ r. ⌜ r ≡ foundOf (lookupWords 32 1 (now (nodes .entry)) (now (ports .entry)) address) ⌝ }
+{
+    descend(1, nodes, ports, address)
+}
+
+// The lookup at stride 2. Refuses 11 at place 0, with the nodes read so far.
+pub fn lookup_2(nodes: &[u32], ports: &[u16], address: u32) -> Found
+    ensures { λ r. ⌜ r ≡ foundOf (lookupWords 32 2 (now (nodes .entry)) (now (ports .entry)) address) ⌝ }
+{
+    descend(2, nodes, ports, address)
+}
+
+// The lookup at stride 4. Refuses 11 at place 0, with the nodes read so far.
+pub fn lookup_4(nodes: &[u32], ports: &[u16], address: u32) -> Found
+    ensures { λ r. ⌜ r ≡ foundOf (lookupWords 32 4 (now (nodes .entry)) (now (ports .entry)) address) ⌝ }
+{
+    descend(4, nodes, ports, address)
+}
+
+// The port of an address and the nodes read. Refuses 12, then 11 with the nodes read so far, both at place 0. A stride that is a
+// constant lets the compiler make its walk for that stride alone; and it calls none of the three above, so that each walk has one
+// caller, in which the compiler unfolds it.
+pub fn lookup(stride: u32, nodes: &[u32], ports: &[u16], address: u32) -> Found
+    ensures { λ r. ⌜ r ≡ foundOf (lookupWords 32 stride (now (nodes .entry)) (now (ports .entry)) address) ⌝ }
+{
+    if stride == 1 {
+        return descend(1, nodes, ports, address);
+    }
+    if stride == 2 {
+        return descend(2, nodes, ports, address);
+    }
+    if stride == 4 {
+        return descend(4, nodes, ports, address);
+    }
+    Found::refused(WRONG_STRIDE, 0)
+}

@@ -1,0 +1,11 @@
+-- Laws of the image.
+pub mod Numbering
+pub mod Counts
+pub mod Longer
+pub mod Words
+pub mod Walk
+pub mod Slots
+pub mod Descent
+pub mod Image
+pub mod Alike
+pub mod Listed

@@ -1,0 +1,68 @@
+-- One turn of the walk, by what stands in the words; and how many nodes it reads at most. Assumes nothing.
+use mathlib.Core.Path.{_≡_, refl}
+use mathlib.Core.Bool.{Bool, true, false, cond}
+use mathlib.Core.List.{List}
+use Prim.Native.Nat.{ℕ, zero, suc, _+_, _/_, _^_, _≤_, _<_}
+use native.Mathlib.Omega.{arith}
+use lib.Dec.{eqb, ltb, leb}
+use lib.ListN.{length, getD}
+use borrow.Author.Tests.{lt-ltb, le-leb}
+use Rattle.bits.specs.Bitmap.{slotBit}
+use Rattle.routes.specs.Refusals.{notInOrder, wrongStride, lastPort}
+use Rattle.image_rules.specs.Node.{isNode, bitmapOf}
+use Rattle.image_rules.specs.Lookup.{Looked, answered, refusedAt, slotAt, leafOf, childAt, leafAt, walk, isStride, lookupWords}
+use Rattle.image_rules.specs.Theorems.{ReadsLe}
+
+pub leaf-at-is : (ports : List ℕ) (l p reads : ℕ) → l < length ports → getD ports l 0 ≡ p → p ≤ lastPort
+    → leafAt ports l reads ≡ answered p reads
+leaf-at-is ports l p reads h e k = rw (lt-ltb l (length ports) h, e, le-leb p lastPort k)
+
+-- a node whose bitmap is in order
+module _ (s : ℕ) (nodes ports : List ℕ) (addr k a reads : ℕ)
+    (node : isNode nodes a ≡ true) (small : bitmapOf nodes a < 2 ^ (2 ^ s)) where
+  pub walk-leaf : slotBit (2 ^ s) (bitmapOf nodes a) (slotAt s addr k) ≡ 1
+      → walk s nodes ports addr (suc k) a reads ≡ leafAt ports (leafOf (2 ^ s) nodes a (slotAt s addr k)) (reads + 1)
+  unfolding walk
+  walk-leaf e = rw (node, lt-ltb (bitmapOf nodes a) (2 ^ (2 ^ s)) small, e)
+
+  pub walk-child : slotBit (2 ^ s) (bitmapOf nodes a) (slotAt s addr k) ≡ 0
+      → walk s nodes ports addr (suc k) a reads ≡ walk s nodes ports addr k (childAt (2 ^ s) nodes a (slotAt s addr k)) (reads + 1)
+  unfolding walk
+  walk-child e = rw (node, lt-ltb (bitmapOf nodes a) (2 ^ (2 ^ s)) small, e)
+
+-- nodes read
+
+reads-leaf : (ports : List ℕ) (l reads : ℕ) → leafAt ports l reads .reads ≡ reads
+reads-leaf ports l reads = by (ltb l (length ports)) (leb (getD ports l 0) lastPort)
+  where
+    by : (b c : Bool)
+        → cond b (cond c (answered (getD ports l 0) reads) (refusedAt notInOrder reads)) (refusedAt notInOrder reads) .reads ≡ reads
+    by true true = refl
+    by true false = refl
+    by false c = refl
+
+reads-turn : (node small one : Bool) (end next : Looked) (reads k : ℕ) → end .reads ≡ reads + 1 → next .reads ≤ reads + 1 + k
+    → cond node (cond small (cond one end next) (refusedAt notInOrder (reads + 1))) (refusedAt notInOrder reads) .reads ≤ reads + suc k
+reads-turn true true true end next reads k h l = omega arith
+reads-turn true true false end next reads k h l = omega arith
+reads-turn true false one end next reads k h l = omega arith
+reads-turn false small one end next reads k h l = omega arith
+
+pub reads-walk : (s : ℕ) (nodes ports : List ℕ) (addr k a reads : ℕ) → walk s nodes ports addr k a reads .reads ≤ reads + k
+unfolding walk
+reads-walk s nodes ports addr zero a reads = omega arith
+reads-walk s nodes ports addr (suc k) a reads =
+    reads-turn (isNode nodes a) (ltb (bitmapOf nodes a) (2 ^ (2 ^ s)))
+    (eqb (slotBit (2 ^ s) (bitmapOf nodes a) (slotAt s addr k)) 1)
+    (leafAt ports (leafOf (2 ^ s) nodes a (slotAt s addr k)) (reads + 1))
+    (walk s nodes ports addr k (childAt (2 ^ s) nodes a (slotAt s addr k)) (reads + 1)) reads k
+    (reads-leaf ports (leafOf (2 ^ s) nodes a (slotAt s addr k)) (reads + 1))
+    (reads-walk s nodes ports addr k (childAt (2 ^ s) nodes a (slotAt s addr k)) (reads + 1))
+
+pub reads-le : ReadsLe
+unfolding lookupWords
+reads-le w s nodes ports a = by (isStride s)
+  where
+    by : (b : Bool) → cond b (walk s nodes ports a (w / s) 1 0) (refusedAt wrongStride 0) .reads ≤ w / s
+    by true = omega (arith, reads-walk s nodes ports a (w / s) 1 0)
+    by false = omega arith

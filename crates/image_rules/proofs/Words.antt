@@ -1,0 +1,182 @@
+-- Reading back the words and ports of nodes, also where more words are lent after them. Assumes nothing.
+use mathlib.Core.Path.{_≡_, refl, sym, ap, _∙_}
+use mathlib.Core.Bool.{true}
+use mathlib.Core.List.{List, [], _∷_, _++_}
+use Prim.Native.Nat.{ℕ, zero, suc, _+_, _-_, _*_, _^_, _≤_, _<_}
+use native.Mathlib.Omega.{arith}
+use native.Mathlib.Nat.{add-zero, zero-add}
+use lib.ListN.{length, getD, drop, length-append, List·getD-append}
+use lib.Seq.{getD-drop, drop-cons}
+use borrow.Author.Tests.{lt-ltb, le-leb, ne-eqb}
+use Rattle.bits.specs.Bitmap.{slotBit, onesBefore, zerosBefore}
+use Rattle.lists.specs.Flat.{flat, upto}
+use Rattle.image_rules.specs.Node.{nodeSize, offset, nodeCount, isNode, bitmapOf, offsetOf, baseOf}
+use Rattle.image_rules.specs.Breadth.{Slot, leaf, nonLeaf, portOf, childOf, leafBit, bitmap, children, leafPorts, words, treeWords, treePorts}
+use Rattle.image_rules.specs.Lookup.{leafOf, childAt}
+use Rattle.lists.proofs.Flat.{flat-at, flat-lt}
+use Rattle.image_rules.proofs.Counts.{bitmap-lt, ones-before-bitmap, zeros-before-bitmap, slot-bit-bitmap}
+
+offset-some : (children first own : ℕ) → 0 < children → offset children first own ≡ first - own
+offset-some children first own h = rw (ne-eqb children 0 (λ e. omega arith))
+
+module _ {X : Type 0} (slots : X → List (Slot X)) where
+  words-like : {a a′ c c′ l l′ : ℕ} (xs : List X) → a ≡ a′ → c ≡ c′ → l ≡ l′ → words slots a c l xs ≡ words slots a′ c′ l′ xs
+  words-like {a} {a′} {c} {c′} {l} {l′} xs p q r =
+      ap (λ (z : ℕ). words slots z c l xs) p ∙ ap (λ (z : ℕ). words slots a′ z l xs) q ∙ ap (λ (z : ℕ). words slots a′ c′ z xs) r
+
+  pub length-words : (a c l : ℕ) (xs : List X) → length (words slots a c l xs) ≡ length xs * nodeSize
+  length-words a c l [] = refl
+  length-words a c l (x ∷ xs) =
+      omega (arith, length-words (a + 1) (c + length (children slots x)) (l + length (leafPorts slots x)) xs)
+
+  -- the words from element i on
+  pub drop-words : (i a c l : ℕ) (xs : List X) → i ≤ length xs
+      → drop (i * nodeSize) (words slots a c l xs)
+      ≡ words slots (a + i) (c + upto (children slots) xs i) (l + upto (leafPorts slots) xs i) (drop i xs)
+  drop-words zero a c l [] h = refl
+  drop-words zero a c l (x ∷ xs) h = words-like (x ∷ xs) (sym (add-zero a)) (sym (add-zero c)) (sym (add-zero l))
+  drop-words (suc i) a c l [] h = absurd (omega arith)
+  drop-words (suc i) a c l (x ∷ xs) h =
+      let e : suc i * nodeSize ≡ suc (suc (suc (i * nodeSize))) = omega arith in
+      ap (λ (k : ℕ). drop k (words slots a c l (x ∷ xs))) e
+      ∙ drop-words i (a + 1) (c + length (children slots x)) (l + length (leafPorts slots x)) xs (omega arith)
+      ∙ words-like (drop i xs) (omega arith) (omega arith) (omega arith)
+
+  -- word r of element i
+  pub word-at : (i r a c l : ℕ) (xs : List X) (d : X) → i < length xs
+      → getD (words slots a c l xs) (i * nodeSize + r) 0
+      ≡ getD (words slots (a + i) (c + upto (children slots) xs i) (l + upto (leafPorts slots) xs i) (getD xs i d ∷ drop (suc i) xs)) r 0
+  word-at i r a c l xs d h =
+      sym (getD-drop (i * nodeSize) (words slots a c l xs) r 0)
+      ∙ ap (λ (ws : List ℕ). getD ws r 0)
+      (drop-words i a c l xs (omega arith)
+      ∙ ap (words slots (a + i) (c + upto (children slots) xs i) (l + upto (leafPorts slots) xs i)) (drop-cons xs i d h))
+
+-- a is the number of a node of xs, and that node is y
+pub record Numbers {X : Type 0} (xs : List X) (root : X) (a : ℕ) (y : X) : Type 0 where
+  pub at : ℕ
+  pub number : a ≡ suc at
+  pub stored : at < length xs
+  pub is : getD xs at root ≡ y
+
+-- the nodes xs stand first in the words lent, and their ports first in the ports lent
+module _ {X : Type 0} (slots : X → List (Slot X)) (xs : List X) (root : X) (more extra : List ℕ) where
+  abbrev pub nodesLent : List ℕ
+  nodesLent = treeWords slots xs ++ more
+
+  abbrev pub portsLent : List ℕ
+  portsLent = treePorts slots xs ++ extra
+
+  abbrev pub nodeAt : ℕ → X
+  nodeAt i = getD xs i root
+
+  word-lent : (i r : ℕ) → i < length xs → r < nodeSize
+      → getD nodesLent (i * nodeSize + r) 0
+      ≡ getD (words slots (1 + i) (2 + upto (children slots) xs i) (0 + upto (leafPorts slots) xs i) (nodeAt i ∷ drop (suc i) xs)) r 0
+  word-lent i r h k =
+      List·getD-append (treeWords slots xs) more 0 (i * nodeSize + r) (omega (arith, length-words slots 1 2 0 xs))
+      ∙ word-at slots i r 1 2 0 xs root h
+
+  module _ (i : ℕ) (h : i < length xs) where
+    pub is-node : isNode nodesLent (suc i) ≡ true
+    is-node =
+        let l : suc i ≤ nodeCount nodesLent =
+        omega (arith, length-append (treeWords slots xs) more, length-words slots 1 2 0 xs) in
+        rw (lt-ltb 0 (suc i) (omega arith), le-leb (suc i) (nodeCount nodesLent) l)
+
+    pub bitmap-is : bitmapOf nodesLent (suc i) ≡ bitmap (slots (nodeAt i))
+    bitmap-is =
+        let e : (suc i - 1) * nodeSize ≡ i * nodeSize + 0 = omega arith in
+        ap (λ (z : ℕ). getD nodesLent z 0) e ∙ word-lent i 0 h (omega arith)
+
+    pub offset-is : offsetOf nodesLent (suc i)
+        ≡ offset (length (children slots (nodeAt i))) (2 + upto (children slots) xs i) (1 + i)
+    offset-is =
+        let e : suc i - 1 ≡ i = omega arith in
+        ap (λ (z : ℕ). getD nodesLent (z * nodeSize + 1) 0) e ∙ word-lent i 1 h (omega arith)
+
+    pub base-is : baseOf nodesLent (suc i) ≡ upto (leafPorts slots) xs i
+    base-is =
+        let e : suc i - 1 ≡ i = omega arith in
+        ap (λ (z : ℕ). getD nodesLent (z * nodeSize + 2) 0) e ∙ word-lent i 2 h (omega arith)
+        ∙ zero-add (upto (leafPorts slots) xs i)
+
+    -- slot j of n
+    module _ (n j : ℕ) (len : length (slots (nodeAt i)) ≡ n) (k : j < n) where
+      abbrev pub slotHeld : Slot X
+      slotHeld = getD (slots (nodeAt i)) j (leaf 0)
+
+      in-slots : j < length (slots (nodeAt i))
+      in-slots = omega arith
+
+      pub bitmap-small : bitmapOf nodesLent (suc i) < 2 ^ n
+      bitmap-small = rw bitmap-is (rw len at (bitmap-lt (slots (nodeAt i))))
+
+      pub slot-bit-is : slotBit n (bitmapOf nodesLent (suc i)) j ≡ leafBit slotHeld
+      slot-bit-is = rw bitmap-is (rw len at (slot-bit-bitmap (slots (nodeAt i)) j (leaf 0) in-slots))
+
+      ones-is : onesBefore n (bitmapOf nodesLent (suc i)) j ≡ upto portOf (slots (nodeAt i)) j
+      ones-is = rw bitmap-is (rw len at (ones-before-bitmap (slots (nodeAt i)) j (omega (arith, in-slots))))
+
+      zeros-is : zerosBefore n (bitmapOf nodesLent (suc i)) j ≡ upto childOf (slots (nodeAt i)) j
+      zeros-is = rw bitmap-is (rw len at (zeros-before-bitmap (slots (nodeAt i)) j (omega (arith, in-slots))))
+
+      -- a leaf: its number is that of its port
+      module _ (p : ℕ) (e : slotHeld ≡ leaf p) where
+        one-port : 0 < length (portOf slotHeld)
+        one-port = rw e (omega arith)
+
+        leaf-lt : upto portOf (slots (nodeAt i)) j < length (leafPorts slots (nodeAt i))
+        leaf-lt = omega (arith, flat-lt portOf (slots (nodeAt i)) j 0 (leaf 0) in-slots one-port)
+
+        leaf-of-is : leafOf n nodesLent (suc i) j ≡ upto (leafPorts slots) xs i + upto portOf (slots (nodeAt i)) j
+        leaf-of-is = omega (arith, base-is, ones-is)
+
+        leaf-stored : leafOf n nodesLent (suc i) j < length (treePorts slots xs)
+        leaf-stored = omega (arith, leaf-of-is, flat-lt (leafPorts slots) xs i (upto portOf (slots (nodeAt i)) j) root h leaf-lt)
+
+        pub leaf-lent : leafOf n nodesLent (suc i) j < length portsLent
+        leaf-lent = omega (arith, leaf-stored, length-append (treePorts slots xs) extra)
+
+        pub port-is : getD portsLent (leafOf n nodesLent (suc i) j) 0 ≡ p
+        port-is =
+            List·getD-append (treePorts slots xs) extra 0 (leafOf n nodesLent (suc i) j) leaf-stored
+            ∙ ap (λ (z : ℕ). getD (treePorts slots xs) z 0) leaf-of-is
+            ∙ flat-at (leafPorts slots) xs i (upto portOf (slots (nodeAt i)) j) root 0 h leaf-lt
+            ∙ ap (λ (z : ℕ). getD (leafPorts slots (nodeAt i)) z 0) (sym (add-zero (upto portOf (slots (nodeAt i)) j)))
+            ∙ flat-at portOf (slots (nodeAt i)) j 0 (leaf 0) 0 in-slots one-port
+            ∙ ap (λ (o : Slot X). getD (portOf o) 0 0) e
+
+      -- a non-leaf: its number is that of its node, by the numbering law
+      module _ (y : X) (e : slotHeld ≡ nonLeaf y) (is : xs ≡ root ∷ flat (children slots) xs)
+          (before : i < 1 + upto (children slots) xs i) where
+        one-child : 0 < length (childOf slotHeld)
+        one-child = rw e (omega arith)
+
+        child-lt : upto childOf (slots (nodeAt i)) j < length (children slots (nodeAt i))
+        child-lt = omega (arith, flat-lt childOf (slots (nodeAt i)) j 0 (leaf 0) in-slots one-child)
+
+        abbrev child : ℕ
+        child = suc (upto (children slots) xs i + upto childOf (slots (nodeAt i)) j)
+
+        child-at-is : childAt n nodesLent (suc i) j ≡ suc child
+        child-at-is =
+            let o : offsetOf nodesLent (suc i) ≡ 2 + upto (children slots) xs i - (1 + i) =
+            offset-is ∙ offset-some (length (children slots (nodeAt i))) (2 + upto (children slots) xs i) (1 + i) (omega (arith, child-lt)) in
+            omega (arith, o, zeros-is, before)
+
+        child-is : nodeAt child ≡ y
+        child-is =
+            ap (λ (l : List X). getD l child root) is
+            ∙ flat-at (children slots) xs i (upto childOf (slots (nodeAt i)) j) root root h child-lt
+            ∙ ap (λ (z : ℕ). getD (children slots (nodeAt i)) z root) (sym (add-zero (upto childOf (slots (nodeAt i)) j)))
+            ∙ flat-at childOf (slots (nodeAt i)) j 0 (leaf 0) root in-slots one-child
+            ∙ ap (λ (o : Slot X). getD (childOf o) 0 root) e
+
+        pub child-numbers : Numbers xs root (childAt n nodesLent (suc i) j) y
+        child-numbers = record {
+          at = child;
+          number = child-at-is;
+          stored = omega (arith, ap length is, flat-lt (children slots) xs i (upto childOf (slots (nodeAt i)) j) root h child-lt);
+          is = child-is;
+        }

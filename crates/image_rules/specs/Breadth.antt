@@ -1,0 +1,59 @@
+-- Defines a tree by the slots of its nodes, its nodes breadth first, and their words and ports: rules, "The image". A node is known
+-- by any X: here by its bits, in a builder by what is still to be done. Assumes nothing.
+use mathlib.Core.List.{List, [], _∷_, _++_}
+use Prim.Native.Nat.{ℕ, zero, suc, _+_, _*_, _^_}
+use lib.ListN.{length}
+use Rattle.lists.specs.Flat.{flat}
+use Rattle.image_rules.specs.Node.{nodeWords, offset}
+
+-- a slot is a leaf with its port, or a non-leaf: a node further down
+pub data Slot (X : Type 0) : Type 0 where
+  leaf : ℕ → Slot X
+  nonLeaf : X → Slot X
+
+module _ {X : Type 0} where
+  abbrev pub portOf : Slot X → List ℕ
+  portOf (leaf p) = p ∷ []
+  portOf (nonLeaf x) = []
+
+  abbrev pub childOf : Slot X → List X
+  childOf (leaf p) = []
+  childOf (nonLeaf x) = x ∷ []
+
+  -- "1 means leaf"
+  abbrev pub leafBit : Slot X → ℕ
+  leafBit (leaf p) = 1
+  leafBit (nonLeaf x) = 0
+
+  -- "In the bitmap slot 0 is the highest of 2^s bits"
+  abbrev pub bitmap : List (Slot X) → ℕ
+  bitmap [] = 0
+  bitmap (o ∷ os) = leafBit o * 2 ^ length os + bitmap os
+
+  -- a node's non-leaf children, and its leaves' ports, left to right
+  abbrev pub children : (X → List (Slot X)) → X → List X
+  children slots x = flat childOf (slots x)
+
+  abbrev pub leafPorts : (X → List (Slot X)) → X → List ℕ
+  leafPorts slots x = flat portOf (slots x)
+
+  -- "breadth first, left to right": a level, then its children's; k levels in all
+  abbrev pub levels : (X → List (Slot X)) → ℕ → List X → List X
+  levels slots zero xs = []
+  levels slots (suc k) xs = xs ++ levels slots k (flat (children slots) xs)
+
+  -- The words of nodes one after the other. The first has the number own, the next child the number first; base counts "the
+  -- leaves in all earlier nodes".
+  abbrev pub words : (X → List (Slot X)) → ℕ → ℕ → ℕ → List X → List ℕ
+  words slots own first base [] = []
+  words slots own first base (x ∷ xs) =
+      nodeWords (bitmap (slots x)) (offset (length (children slots x)) first own) base
+      ++ words slots (own + 1) (first + length (children slots x)) (base + length (leafPorts slots x)) xs
+
+  -- nodes are "numbered from 1": the root has the number 1, its first child 2
+  abbrev pub treeWords : (X → List (Slot X)) → List X → List ℕ
+  treeWords slots xs = words slots 1 2 0 xs
+
+  -- "Ports stand in a lent list of 16-bit numbers, by node, then by slot."
+  abbrev pub treePorts : (X → List (Slot X)) → List X → List ℕ
+  treePorts slots xs = flat (leafPorts slots) xs

@@ -1,0 +1,71 @@
+-- Defines the lookup on any words: rules, "Lookup at node a, slot j". Sums are exact: a damaged offset points past the nodes lent and
+-- never wraps. Assumes nothing.
+use mathlib.Core.Bool.{Bool, true, cond}
+use mathlib.Core.List.{List}
+use Prim.Native.Nat.{ℕ, zero, suc, _+_, _*_, _/_, _%_, _^_, _<_}
+use lib.Dec.{eqb, ltb, leb}
+use lib.ListN.{length, getD}
+use Rattle.bits.specs.Bitmap.{slotBit, onesBefore, zerosBefore}
+use Rattle.routes.specs.Refusals.{notInOrder, wrongStride, lastPort}
+use Rattle.image_rules.specs.Node.{isNode, bitmapOf, offsetOf, baseOf}
+use mathlib.Core.Path.{_≡_}
+use Rattle.bits.specs.Bits.{bits}
+
+-- what a lookup answers: the refusal's number, 0 if it is done; the port; the nodes read
+pub record Looked : Type 0 where
+  pub number : ℕ
+  pub port : ℕ
+  pub reads : ℕ
+
+abbrev pub answered : ℕ → ℕ → Looked
+answered port reads = record { number = 0; port = port; reads = reads }
+
+-- "all other results 0 (.. for a lookup the rows or nodes read so far)"
+abbrev pub refusedAt : ℕ → ℕ → Looked
+refusedAt number reads = record { number = number; port = 0; reads = reads }
+
+-- the slot of the address where k levels are left below it
+abbrev pub slotAt : ℕ → ℕ → ℕ → ℕ
+slotAt s addr k = addr / 2 ^ (s * k) % 2 ^ s
+
+-- "on a leaf, the port at leaf base plus the number of ones in the slots before j"
+abbrev pub leafOf : ℕ → List ℕ → ℕ → ℕ → ℕ
+leafOf n nodes a j = baseOf nodes a + onesBefore n (bitmapOf nodes a) j
+
+-- "else node a plus offset plus the number of zeros before j"
+abbrev pub childAt : ℕ → List ℕ → ℕ → ℕ → ℕ
+childAt n nodes a j = a + offsetOf nodes a + zerosBefore n (bitmapOf nodes a) j
+
+-- 11 for "a leaf number past the ports lent, a port above 4094"
+abbrev pub leafAt : List ℕ → ℕ → ℕ → Looked
+leafAt ports l reads =
+    cond (ltb l (length ports))
+    (cond (leb (getD ports l 0) lastPort) (answered (getD ports l 0) reads) (refusedAt notInOrder reads))
+    (refusedAt notInOrder reads)
+
+-- From node a on, where k levels are left. 11 for what is no node, which "adds none" to the nodes read; for "a bitmap of 2^(2^s) or
+-- more"; and with no level left, for "a non-leaf at depth [w-s]", whose node is counted already.
+unfoldable pub walk : ℕ → List ℕ → List ℕ → ℕ → ℕ → ℕ → ℕ → Looked
+walk s nodes ports addr zero a reads = refusedAt notInOrder reads
+walk s nodes ports addr (suc k) a reads =
+    cond (isNode nodes a)
+    (cond (ltb (bitmapOf nodes a) (2 ^ (2 ^ s)))
+    (cond (eqb (slotBit (2 ^ s) (bitmapOf nodes a) (slotAt s addr k)) 1)
+    (leafAt ports (leafOf (2 ^ s) nodes a (slotAt s addr k)) (reads + 1))
+    (walk s nodes ports addr k (childAt (2 ^ s) nodes a (slotAt s addr k)) (reads + 1)))
+    (refusedAt notInOrder (reads + 1)))
+    (refusedAt notInOrder reads)
+
+-- "Stride s is 1, 2 or 4."
+abbrev pub isStride : ℕ → Bool
+isStride s = cond (eqb s 1) true (cond (eqb s 2) true (eqb s 4))
+
+-- "its lookup 12, then 11": from the root, on all levels of a w-bit address
+unfoldable pub lookupWords : ℕ → ℕ → List ℕ → List ℕ → ℕ → Looked
+lookupWords w s nodes ports addr = cond (isStride s) (walk s nodes ports addr (w / s) 1 0) (refusedAt wrongStride 0)
+
+-- w-bit addresses are whole strides of s bits
+pub record Strided (w s : ℕ) : Type 0 where
+  pub stride : isStride s ≡ true
+  pub some : 0 < w
+  pub whole : w % s ≡ 0

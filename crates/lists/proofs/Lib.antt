@@ -1,0 +1,6 @@
+-- Laws of lists, sums and tests that every layer cites.
+pub mod Tests
+pub mod Flat
+pub mod Numbered
+pub mod Sum
+pub mod Sets

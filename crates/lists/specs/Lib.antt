@@ -1,0 +1,3 @@
+-- Lists by number, and what their elements give one after the other.
+pub mod Flat
+pub mod Numbered

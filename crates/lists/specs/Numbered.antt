@@ -1,0 +1,8 @@
+-- Defines lists of things that have a number. Assumes nothing.
+use mathlib.Core.List.{List, [], _∷_}
+use Prim.Native.Nat.{ℕ, zero, suc, _+_}
+
+-- k elements from number i on
+unfoldable pub listOf : {X : Type 0} → (ℕ → X) → ℕ → ℕ → List X
+listOf R zero i = []
+listOf R (suc k) i = R i ∷ listOf R k (i + 1)

@@ -1,2 +1,0 @@
--- What the parts of the reader give and ask.
-pub mod Parts

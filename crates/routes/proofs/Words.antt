@@ -1,0 +1,57 @@
+-- The words of a list of routes: their number, one list after another, and one route read or stored among them. Assumes nothing.
+use mathlib.Core.Path.{_≡_, refl, sym, ap, _∙_}
+use mathlib.Core.List.{List, [], _∷_, _++_, append-assoc}
+use Prim.Native.Nat.{ℕ, suc, _+_, _*_, _<_, _≤_}
+use native.Mathlib.Omega.{arith}
+use native.Mathlib.Nat.{add-zero}
+use native.Mathlib.Numerals.{towards-suc}
+use lib.ListN.{length, getD, take, drop, length-append}
+use lib.Seq.{sets, sets-eq, take-at, split-at, length-take-le, getD-append-add, drop-append-add}
+use Rattle.promise.specs.Over.{put3}
+use Rattle.routes.specs.Routes.{routeAt, routeWords, wordsOf}
+use Rattle.routes.specs.declared.Route.{Route}
+
+pub length-words : (rs : List Route) → length (wordsOf rs) ≡ length rs * 3
+unfolding wordsOf
+length-words [] = refl
+length-words (r ∷ rs) = omega (arith, length-words rs)
+
+pub words-append : (xs ys : List Route) → wordsOf (xs ++ ys) ≡ wordsOf xs ++ wordsOf ys
+unfolding wordsOf
+words-append [] ys = refl
+words-append (x ∷ xs) ys = ap (λ (ws : List ℕ). routeWords x ++ ws) (words-append xs ys)
+
+-- route j, where j routes of words stand before it
+module _ (X Y : List ℕ) (j : ℕ) (at : length X ≡ j * 3) where
+  pub get-words : (z : Route) → routeAt (X ++ (routeWords z ++ Y)) j ≡ z
+  get-words z = λ i. record {
+    value = (ap (λ (a : ℕ). getD (X ++ (routeWords z ++ Y)) a 0) (sym (add-zero (j * 3))) ∙ word 0) i;
+    len = word 1 i;
+    port = word 2 i;
+  }
+    where
+      word : (k : ℕ) → getD (X ++ (routeWords z ++ Y)) (j * 3 + k) 0 ≡ getD (routeWords z ++ Y) k 0
+      word k =
+          ap (λ (a : ℕ). getD (X ++ (routeWords z ++ Y)) (a + k) 0) (sym at) ∙ getD-append-add X (routeWords z ++ Y) k 0
+
+  pub put-words : (h x : Route) → put3 (X ++ (routeWords h ++ Y)) (j * 3) (x .value) (x .len) (x .port) ≡ X ++ (routeWords x ++ Y)
+  put-words h x =
+      let ws : List ℕ = X ++ (routeWords h ++ Y) in
+      let s : put3 ws (j * 3) (x .value) (x .len) (x .port) ≡ sets ws (j * 3) (routeWords x) = simp towards-suc in
+      let m : j * 3 + 3 ≤ length ws = omega (arith, length-append X (routeWords h ++ Y)) in
+      s
+      ∙ sets-eq (routeWords x) ws (j * 3) m
+      ∙ ap (λ (p : List ℕ). p ++ routeWords x ++ drop (j * 3 + 3) ws) (take-at X (routeWords h ++ Y) (j * 3) at)
+      ∙ ap (λ (q : List ℕ). X ++ routeWords x ++ q) (ap (λ (a : ℕ). drop (a + 3) ws) (sym at) ∙ drop-append-add X (routeWords h ++ Y) 3)
+      ∙ append-assoc X (routeWords x) Y
+
+-- route i of the words of a list, whatever follows them
+pub get-words-at : (rs : List Route) (Y : List ℕ) (i : ℕ) (d : Route) → i < length rs → routeAt (wordsOf rs ++ Y) i ≡ getD rs i d
+unfolding wordsOf
+get-words-at rs Y i d h =
+    let X : List ℕ = wordsOf (take i rs) in
+    let Z : List ℕ = wordsOf (drop (suc i) rs) in
+    let n : length X ≡ i * 3 = length-words (take i rs) ∙ ap (λ (k : ℕ). k * 3) (length-take-le i rs (omega arith)) in
+    ap (λ (ws : List ℕ). routeAt (ws ++ Y) i) (ap wordsOf (split-at rs i d h) ∙ words-append (take i rs) (getD rs i d ∷ drop (suc i) rs))
+    ∙ ap (λ (ws : List ℕ). routeAt ws i) (append-assoc X (routeWords (getD rs i d) ++ Z) Y)
+    ∙ get-words X (Z ++ Y) i n (getD rs i d)

@@ -1,2 +1,0 @@
--- That each promise leaves no choice.
-pub mod Unique

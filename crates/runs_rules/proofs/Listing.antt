@@ -1,0 +1,86 @@
+-- The listing of routes: it is the one of their plain scan, short, and found by boundaries. Rules, "The run listing". Assumes nothing.
+use mathlib.Core.Path.{_≡_, refl, sym, ap, _∙_}
+use mathlib.Core.List.{List, [], _∷_}
+use Prim.Native.Nat.{ℕ, _*_, _/_, _^_, _≤_}
+use native.Mathlib.Omega.{arith}
+use native.Mathlib.Nat.{sub-zero}
+use lib.ListN.{length}
+use lib.Pow.{pow-pos}
+use Rattle.trie.specs.Scan.{plainScan}
+use borrow.Author.Tests.{eq-eqb, ne-eqb, le-leb, lt-leb}
+use Rattle.routes.specs.Routes.{routeAt, routeCount}
+use Rattle.lists.specs.Numbered.{listOf}
+use Rattle.routes.specs.Check.{listCheck}
+use Rattle.routes.proofs.Check.{accepted-sized}
+use Rattle.routes.specs.Scan.{scanOf}
+use Rattle.runs_rules.specs.Runs.{Run, Lists, runs, runsFrom, runWords}
+use Rattle.runs_rules.specs.Boundaries.{boundaries, runsBy}
+use Rattle.runs_rules.specs.Listing.{listed, mostRuns, writeRuns, listRuns}
+use Rattle.runs_rules.specs.Theorems.{ListedLists, ListedFew, NeverTooMany, ListedNone, ListedBoundaries, ListRunsDone, ListRunsShort, ListRunsRefused}
+use Rattle.runs_rules.proofs.Runs.{listing-unique, listing-exists}
+use Rattle.runs_rules.proofs.Boundaries.{runs-by-is, runs-by-le, length-boundaries, rising-boundaries, scan-changes}
+
+pub listed-lists : ListedLists
+listed-lists w R n = listing-exists (scanOf w R n) (2 ^ w) (pow-pos w)
+
+pub listed-boundaries : ListedBoundaries
+unfolding runs
+listed-boundaries w R n =
+    ap (λ (k : ℕ). runsFrom (scanOf w R n) 0 0 k) (sym (sub-zero (2 ^ w)))
+    ∙ runs-by-is (scanOf w R n) (2 ^ w) (boundaries w R n) (rising-boundaries w R n) (scan-changes w R n (2 ^ w))
+
+pub listed-few : ListedFew
+listed-few w R n =
+    rw (listed-boundaries w R n)
+    (omega (arith, runs-by-le (scanOf w R n) (2 ^ w) (boundaries w R n) 0, length-boundaries w R n))
+
+pub never-too-many : NeverTooMany
+never-too-many w R n ok = omega (arith, listed-few w R n, ok .few)
+
+pub listed-none : ListedNone
+unfolding boundaries runsBy listOf plainScan
+listed-none w R = listed-boundaries w R 0
+
+-- the answers to a list
+
+-- any listing of an accepted list is what is listed of it, and not too long
+module _ (w : ℕ) (list : List ℕ) (rs : List Run) (fine : listCheck w list .number ≡ 0)
+    (lists : Lists (scanOf w (routeAt list) (routeCount list)) (2 ^ w) 0 rs) where
+  is-listed : listed w (routeAt list) (routeCount list) ≡ rs
+  is-listed =
+      listing-unique (scanOf w (routeAt list) (routeCount list)) (2 ^ w) (listed w (routeAt list) (routeCount list)) rs
+      (listed-lists w (routeAt list) (routeCount list)) lists
+
+  few : length rs ≤ mostRuns
+  few =
+      omega (
+        arith,
+        ap length is-listed,
+        listed-few w (routeAt list) (routeCount list),
+        accepted-sized w list fine .few,
+      )
+
+  list-runs-fine : (lent : List ℕ) → listRuns w list lent ≡ writeRuns rs lent
+  unfolding listRuns
+  list-runs-fine lent = rw (eq-eqb (listCheck w list .number) 0 fine) (ap (λ (qs : List Run). writeRuns qs lent) is-listed)
+
+pub list-runs-done : ListRunsDone
+unfolding writeRuns
+list-runs-done w list lent rs fine lists room =
+    list-runs-fine w list rs fine lists lent
+    ∙ simp (le-leb (length rs) mostRuns (few w list rs fine lists), le-leb (length rs) (length lent / 3) (omega arith))
+
+pub list-runs-short : ListRunsShort
+unfolding writeRuns
+list-runs-short w list lent rs fine lists short =
+    list-runs-fine w list rs fine lists lent
+    ∙ simp (le-leb (length rs) mostRuns (few w list rs fine lists), lt-leb (length rs) (length lent / 3) (omega arith))
+
+pub list-runs-refused : ListRunsRefused
+unfolding listRuns
+list-runs-refused w list lent wrong = simp (ne-eqb (listCheck w list .number) 0 wrong)
+
+-- three words a run
+pub length-run-words : (rs : List Run) → length (runWords rs) ≡ length rs * 3
+length-run-words [] = refl
+length-run-words (r ∷ rs) = omega (arith, length-run-words rs)

@@ -1,0 +1,43 @@
+-- Routes that agree have one listing, and ports that agree too. Assumes nothing.
+use mathlib.Core.Path.{_≡_, ap}
+use mathlib.Core.List.{List, [], _∷_}
+use Prim.Native.Nat.{ℕ, _+_, _^_, _<_}
+use native.Mathlib.Omega.{arith}
+use Rattle.trie.specs.Scan.{plainScan}
+use Rattle.routes.specs.Routes.{ValidList}
+use Rattle.routes.specs.Scan.{routeMatches}
+use Rattle.routes.specs.declared.Route.{Route}
+use Rattle.lists.proofs.Numbered.{list-of-same}
+use Rattle.runs_rules.specs.Runs.{Run, Lists, runs}
+use Rattle.runs_rules.specs.Listing.{listed}
+
+-- routes that agree below n
+module _ (w : ℕ) (R Q : ℕ → Route) (n : ℕ) (e : (j : ℕ) → j < n → R j ≡ Q j) where
+  pub listed-same : listed w R n ≡ listed w Q n
+  listed-same =
+      ap (λ (rs : List Route). runs (λ (a : ℕ). plainScan (routeMatches w a) (λ r. r .len) (λ r. r .port) rs) (2 ^ w))
+      (list-of-same R Q n 0 (λ j u v. e j (omega arith)))
+
+  pub valid-same : ValidList w R n → ValidList w Q n
+  valid-same ok = record {
+    few = ok .few;
+    each = λ i h. rw (← e i h) (ok .each i h);
+    rises = λ i h. rw (← e i (omega arith), ← e (i + 1) h) (ok .rises i h);
+  }
+
+-- ports that agree below n
+pub lists-same : (f g : ℕ → ℕ) (n a : ℕ) (rs : List Run) → ((x : ℕ) → x < n → f x ≡ g x) → Lists f n a rs → Lists g n a rs
+lists-same f g n a [] e ls = ls
+lists-same f g n a (r ∷ rs) e ls = (
+  record {
+    starts = ls .0 .starts;
+    some = ls .0 .some;
+    within = ls .0 .within;
+    one-port = λ x u v. sym-then x (omega (arith, v, ls .0 .within)) (ls .0 .one-port x u v);
+  },
+  ls .1,
+  lists-same f g n (r .last + 1) rs e (ls .2),
+)
+  where
+    sym-then : (x : ℕ) → x < n → f x ≡ r .port → g x ≡ r .port
+    sym-then x h p = rw (← e x h) p

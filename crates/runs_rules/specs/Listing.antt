@@ -1,0 +1,37 @@
+-- Defines the listing of routes and what a call that writes it answers and leaves: rules, "The run listing"; "Listing: list
+-- checks or 11, then 13, then 9". Assumes nothing.
+use mathlib.Core.Bool.{cond}
+use mathlib.Core.List.{List}
+use Prim.Native.Nat.{ℕ, _/_, _^_}
+use lib.Dec.{eqb, leb}
+use lib.ListN.{length}
+use Rattle.promise.specs.Over.{Outcome, outcome, over}
+use Rattle.routes.specs.Refusals.{noRoom, tooManyRuns, refused, accepted}
+use Rattle.routes.specs.Routes.{routeAt, routeCount}
+use Rattle.routes.specs.Check.{listCheck}
+use Rattle.routes.specs.Scan.{scanOf}
+use Rattle.routes.specs.declared.Route.{Route}
+use Rattle.routes.specs.declared.Answer.{Answer}
+use Rattle.runs_rules.specs.Runs.{Run, runs, runWords}
+
+-- the listing of n routes: the runs of their plain scan over the whole address space
+abbrev pub listed : ℕ → (ℕ → Route) → ℕ → List Run
+listed w R n = runs (scanOf w R n) (2 ^ w)
+
+-- "more than 8,193 runs"
+abbrev pub mostRuns : ℕ
+mostRuns = 8193
+
+-- "then 13, then 9"; the words of the runs over the front of the lent memory, and how many runs there are
+unfoldable pub writeRuns : List Run → List ℕ → Outcome Answer
+writeRuns rs lent =
+    cond (leb (length rs) mostRuns)
+    (cond (leb (length rs) (length lent / 3)) (outcome (accepted (length rs)) (over (runWords rs) lent)) (outcome (refused noRoom 0) lent))
+    (outcome (refused tooManyRuns 0) lent)
+
+-- "From a valid list": the list checks first
+unfoldable pub listRuns : ℕ → List ℕ → List ℕ → Outcome Answer
+listRuns w list lent =
+    cond (eqb (listCheck w list .number) 0)
+    (writeRuns (listed w (routeAt list) (routeCount list)) lent)
+    (outcome (listCheck w list) lent)

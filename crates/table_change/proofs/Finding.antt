@@ -1,0 +1,92 @@
+-- One turn of the search for a prefix, by what the code finds at the row. Assumes nothing.
+use mathlib.Core.Path.{_≡_, refl, sym, ap, ap₂, _∙_, subst}
+use mathlib.Core.Bool.{Bool, true, false, cond}
+use Prim.Native.Nat.{ℕ, zero, suc, _-_, _<_, _≤_}
+use native.Mathlib.Omega.{arith}
+use lib.Dec.{eqb}
+use borrow.Author.Tests.{eq-eqb, ne-eqb}
+use Rattle.routes.specs.declared.Route.{Route}
+use Rattle.table_rules.specs.Rows.{Mem, child, routeOf, withRoute}
+use Rattle.bits.specs.Bits.{bitBefore}
+use Rattle.table_rules.specs.Announce.{isSame, isOver, pick, heldAt}
+use Rattle.table_rules.specs.declared.Row.{Row}
+use Rattle.table_change.specs.Plan.{planOf}
+use Rattle.table_change.specs.declared.sinking.Plan.{Plan}
+
+pub pred-of : (k : ℕ) → suc k - 1 ≡ k
+pred-of k = omega arith
+
+module _ (w : ℕ) (M : Mem) (q : Route) (r : ℕ) where
+  same-held : (left : ℕ) → isSame q (M r) ≡ true → heldAt w M left r q ≡ true
+  unfolding heldAt
+  same-held zero e = e
+  same-held (suc k) e = rw e
+
+  last-held : (left : ℕ) → left ≤ 0 → heldAt w M left r q ≡ isSame q (M r)
+  unfolding heldAt
+  last-held zero h = refl
+  last-held (suc k) h = absurd (omega arith)
+
+  over-held : (left : ℕ) → 0 < left → isSame q (M r) ≡ false → isOver (w - left) q (M r) ≡ true → heldAt w M left r q ≡ false
+  unfolding heldAt
+  over-held zero pos e o = absurd (omega arith)
+  over-held (suc k) pos e o = rw (e, o)
+
+  none-held : (left : ℕ) → 0 < left → isSame q (M r) ≡ false → isOver (w - left) q (M r) ≡ false
+      → child (M r) (bitBefore (q .value) (left - 1)) ≡ 0 → heldAt w M left r q ≡ false
+  unfolding heldAt
+  none-held zero pos e o z = absurd (omega arith)
+  none-held (suc k) pos e o z = rw (e, o, eq-eqb _ 0 (rw (pred-of k) at z))
+
+  next-held : (left : ℕ) → 0 < left → isSame q (M r) ≡ false → isOver (w - left) q (M r) ≡ false
+      → (child (M r) (bitBefore (q .value) (left - 1)) ≡ 0 → ⊥)
+      → heldAt w M left r q ≡ heldAt w M (left - 1) (child (M r) (bitBefore (q .value) (left - 1))) q
+  unfolding heldAt
+  next-held zero pos e o z = absurd (omega arith)
+  next-held (suc k) pos e o z =
+      let z′ : (child (M r) (bitBefore (q .value) k) ≡ 0 → ⊥) = (λ g. z (rw (pred-of k) g)) in
+      rw (pred-of k, e, o, ne-eqb (child (M r) (bitBefore (q .value) k)) 0 z′)
+
+-- the same for the code's values: x is the row, a whether it is the route's, o whether the route is over it, c the child
+module _ (w : ℕ) (M : Mem) (q : Route) (left r : ℕ) (end : Bool) (inv : heldAt w M left r q ≡ end)
+    (x : Row) (is : x ≡ M r) (a : Bool) (same : a ≡ isSame q x) where
+  a-is : (v : Bool) → a ≡ v → isSame q (M r) ≡ v
+  a-is v e = ap (isSame q) (sym is) ∙ sym same ∙ e
+
+  pub held-same : a ≡ true → true ≡ end
+  held-same e = sym (same-held w M q r left (a-is true e)) ∙ inv
+
+  pub held-last : left ≤ 0 → a ≡ end
+  held-last h = same ∙ ap (isSame q) is ∙ sym (last-held w M q r left h) ∙ inv
+
+  module _ (pos : 0 < left) (other : a ≡ false) (depth : ℕ) (d : depth ≡ w - left) (o : Bool) (over : o ≡ isOver depth q x) where
+    o-is : (v : Bool) → o ≡ v → isOver (w - left) q (M r) ≡ v
+    o-is v e = ap₂ (λ (j : ℕ) (y : Row). isOver j q y) (sym d) (sym is) ∙ sym over ∙ e
+
+    pub held-over : o ≡ true → false ≡ end
+    held-over e = sym (over-held w M q r left pos (a-is false other) (o-is true e)) ∙ inv
+
+    module _ (under : o ≡ false) (b : Bool) (bit : b ≡ bitBefore (q .value) (left - 1)) (c : ℕ) (kid : c ≡ child x b) where
+      c-is : c ≡ child (M r) (bitBefore (q .value) (left - 1))
+      c-is = kid ∙ ap₂ (λ (y : Row) (e : Bool). child y e) is bit
+
+      pub held-none : c ≡ 0 → false ≡ end
+      held-none e = sym (none-held w M q r left pos (a-is false other) (o-is false under) (sym c-is ∙ e)) ∙ inv
+
+      pub held-next : (c ≡ 0 → ⊥) → heldAt w M (left - 1) c q ≡ end
+      held-next ne =
+          ap (λ (j : ℕ). heldAt w M (left - 1) j q) c-is
+          ∙ sym (next-held w M q r left pos (a-is false other) (o-is false under) (λ e. ne (c-is ∙ e))) ∙ inv
+
+-- the plan from the code's values
+pub plan-is : (w : ℕ) (x : Row) (q : Route) (k d : ℕ) (over : Bool) (lower : Route) (upper : Row) (right : Bool) (c : ℕ)
+    → d ≡ w - suc k → over ≡ isOver d q x → lower ≡ pick over (routeOf x) q → upper ≡ withRoute x (pick over q (routeOf x))
+    → right ≡ bitBefore (lower .value) k → c ≡ child x right
+    → _≡_ {A = Plan} (record { upper = upper; lower = lower; right = right; child = c }) (planOf w x q k)
+plan-is w x q k d over lower upper right c ed eo el eu er ec =
+    let o : over ≡ isOver (w - suc k) q x = eo ∙ ap (λ (j : ℕ). isOver j q x) ed in
+    let l : lower ≡ pick (isOver (w - suc k) q x) (routeOf x) q = el ∙ ap (λ (b : Bool). pick b (routeOf x) q) o in
+    let u : upper ≡ withRoute x (pick (isOver (w - suc k) q x) q (routeOf x)) = eu ∙ ap (λ (b : Bool). withRoute x (pick b q (routeOf x))) o in
+    let r : right ≡ bitBefore (pick (isOver (w - suc k) q x) (routeOf x) q .value) k = er ∙ ap (λ (z : Route). bitBefore (z .value) k) l in
+    let e : c ≡ child x (bitBefore (pick (isOver (w - suc k) q x) (routeOf x) q .value) k) = ec ∙ ap (child x) r in
+    λ i. record { upper = u i; lower = l i; right = r i; child = e i }

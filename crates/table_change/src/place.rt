@@ -1,0 +1,102 @@
+// Rows and routes by value: what an update reads off a row, and the row that it leaves.
+ghost use mathlib.Core.Path.{_≡_};
+ghost use Prim.Native.Nat.{_<_};
+ghost use Rattle.table_rules.specs.Rows.{child, routeOf, leafRow, withRoute, withChild};
+ghost use Rattle.bits.specs.Bits.{bitBefore};
+ghost use Rattle.table_rules.specs.Announce.{isSame, isOver, pick};
+use routes::Route;
+use table_rules::Row;
+
+pub(crate) fn route_of(x: Row) -> Route
+    ensures { λ r. ⌜ r ≡ routeOf x ⌝ }
+{
+    Route {
+        value: x.value,
+        len: x.len,
+        port: x.port,
+    }
+}
+
+// The row with another route, and the children that it has.
+pub(crate) fn with_route(x: Row, q: Route) -> Row
+    ensures { λ r. ⌜ r ≡ withRoute x q ⌝ }
+{
+    Row {
+        value: q.value,
+        len: q.len,
+        port: q.port,
+        left: x.left,
+        right: x.right,
+    }
+}
+
+// The row with another child on one side.
+pub(crate) fn with_child(x: Row, right: bool, c: u32) -> Row
+    ensures { λ r. ⌜ r ≡ withChild x right c ⌝ }
+{
+    if right {
+        Row {
+            value: x.value,
+            len: x.len,
+            port: x.port,
+            left: x.left,
+            right: c,
+        }
+    } else {
+        Row {
+            value: x.value,
+            len: x.len,
+            port: x.port,
+            left: c,
+            right: x.right,
+        }
+    }
+}
+
+// A row with a route and no child.
+pub(crate) fn leaf_row(q: Route) -> Row
+    ensures { λ r. ⌜ r ≡ leafRow q ⌝ }
+{
+    Row {
+        value: q.value,
+        len: q.len,
+        port: q.port,
+        left: 0,
+        right: 0,
+    }
+}
+
+pub(crate) fn child_of(x: Row, right: bool) -> u32
+    ensures { λ r. ⌜ r ≡ child x right ⌝ }
+{
+    if right { x.right } else { x.left }
+}
+
+// The bit that has k bits after it.
+pub(crate) fn bit_before(value: u32, k: u32) -> bool
+    requires { ⌜ k < 32 ⌝ }
+    ensures { λ r. ⌜ r ≡ bitBefore value k ⌝ }
+{
+    (value >> k) % 2 == 1
+}
+
+// Whether the row's prefix is the route's.
+pub(crate) fn is_same(q: Route, x: Row) -> bool
+    ensures { λ r. ⌜ r ≡ isSame q x ⌝ }
+{
+    (q.len == x.len) & (q.value == x.value)
+}
+
+// Whether the route is to hold the row's place: the place's own prefix first, then the longer, then the smaller value.
+pub(crate) fn is_over(depth: u32, q: Route, x: Row) -> bool
+    ensures { λ r. ⌜ r ≡ isOver depth q x ⌝ }
+{
+    (depth < x.len)
+        & (!(depth < q.len) | ((x.len < q.len) | ((x.len == q.len) & (q.value < x.value))))
+}
+
+pub(crate) fn pick(first: bool, a: Route, b: Route) -> Route
+    ensures { λ r. ⌜ r ≡ pick first a b ⌝ }
+{
+    if first { a } else { b }
+}

@@ -1,0 +1,11 @@
+-- Defines the check of good order as a call answers it: rules, "11 | table not in good order; in a lookup, as above | 0".
+-- Assumes nothing.
+use mathlib.Core.Bool.{cond}
+use Prim.Native.Nat.{ℕ}
+use Rattle.routes.specs.Refusals.{notInOrder, refused, accepted}
+use Rattle.routes.specs.declared.Answer.{Answer}
+use Rattle.table_rules.specs.Rows.{Mem}
+use Rattle.table_rules.specs.Check.{isGood}
+
+abbrev pub tableCheck : ℕ → ℕ → Mem → ℕ → Answer
+tableCheck w capacity M n = cond (isGood w capacity M n) (accepted 0) (refused notInOrder 0)

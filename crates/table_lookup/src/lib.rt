@@ -1,0 +1,155 @@
+// The table: lookup and the check of good order, on any lent rows.
+ghost use mathlib.Core.Path.{_≡_};
+ghost use Prim.Native.Nat.{_<_};
+ghost use Rattle.table_rules.specs.Rows.{child};
+ghost use Rattle.table_rows.specs.Words.{capacity, rowAt};
+ghost use Rattle.table_rules.specs.Check.{isGood};
+ghost use Rattle.table_rules.specs.Lookup.{wrongRow, rowMatches, endsAt, betterOf, found, lost, lookupIn};
+ghost use Rattle.bits.specs.Bits.{bitBefore};
+ghost use Rattle.table_lookup.specs.Good.{tableCheck};
+use good::seen_at;
+use prefix::Prefix;
+use routes::Answer;
+use routes::refusal::NOT_IN_ORDER;
+use table_rows::capacity_of;
+use table_rows::whole_row;
+use table_rules::Found;
+use table_rules::Row;
+
+mod good;
+
+// Whether a row read at a depth is wrong for the address: a child number n or more, a length above 32 or below the depth, bits
+// past the length, a port outside 1..4094, or a prefix that differs from the address in the first (depth) bits.
+pub(crate) fn is_wrong(x: Row, n: u32, address: u32, depth: u32) -> bool
+    ensures { λ r. ⌜ r ≡ wrongRow 32 x n address depth ⌝ }
+{
+    (n <= x.left)
+        | (n <= x.right)
+        | (32 < x.len)
+        | (x.len < depth)
+        | !Prefix::new(x.value, x.len).is_clear()
+        | !routes::is_port(x.port)
+        | !Prefix::new(address, depth).matches(x.value)
+}
+
+// Whether the row's prefix matches the address.
+fn row_matches(x: Row, address: u32) -> bool
+    ensures { λ r. ⌜ r ≡ rowMatches 32 x address ⌝ }
+{
+    Prefix::new(x.value, x.len).matches(address)
+}
+
+// Whether the row ends the search: a matching priority node.
+fn ends(x: Row, address: u32, depth: u32) -> bool
+    ensures { λ r. ⌜ r ≡ endsAt 32 x address depth ⌝ }
+{
+    row_matches(x, address) & (depth < x.len)
+}
+
+// The best port, once the row is read.
+fn better(x: Row, address: u32, best: u32) -> u32
+    ensures { λ r. ⌜ r ≡ betterOf 32 x address best ⌝ }
+{
+    if row_matches(x, address) {
+        x.port
+    } else {
+        best
+    }
+}
+
+// The child that the address's bit names, where k bits come after it.
+fn child_on(x: Row, address: u32, k: u32) -> u32
+    requires { ⌜ k < 32 ⌝ }
+    ensures { λ r. ⌜ r ≡ child x (bitBefore address k) ⌝ }
+{
+    if (address >> k) % 2 == 1 {
+        x.right
+    } else {
+        x.left
+    }
+}
+
+// The answer of a search that ended.
+fn found_port(port: u32, reads: u32) -> Found
+    ensures { λ r. ⌜ r ≡ found port reads ⌝ }
+{
+    Found {
+        number: 0,
+        port,
+        reads,
+    }
+}
+
+// The answer of a refused search: 11, and the rows read so far.
+fn lost_at(reads: u32) -> Found
+    ensures { λ r. ⌜ r ≡ lost reads ⌝ }
+{
+    Found {
+        number: NOT_IN_ORDER,
+        port: 0,
+        reads,
+    }
+}
+
+// The port of the longest route that matches the address, 0 if none does, and the rows read. On any rows; refuses 11 where n
+// exceeds the capacity, and where a row read is wrong, with the rows read so far.
+pub fn lookup(rows: &[u32], n: u32, address: u32) -> Found
+    ensures { λ r. ⌜ r ≡ lookupIn 32 (capacity (now (rows .entry))) (rowAt (now (rows .entry))) n address ⌝ }
+{
+    if capacity_of(rows) < n {
+        return lost_at(0);
+    }
+    if n == 0 {
+        return found_port(0, 0);
+    }
+    let mut left: u32 = 32;
+    let mut row: u32 = 0;
+    let mut best: u32 = 0;
+    let mut reads: u32 = 0;
+    loop {
+        let x = whole_row(rows, row);
+        let depth = 32 - left;
+        reads += 1;
+        if is_wrong(x, n, address, depth) {
+            return lost_at(reads);
+        }
+        if ends(x, address, depth) {
+            return found_port(x.port, reads);
+        }
+        // An ordinary match does not end the search: a longer route may lie below it.
+        best = better(x, address, best);
+        if left == 0 {
+            return found_port(best, reads);
+        }
+        left -= 1;
+        row = child_on(x, address, left);
+        if row == 0 {
+            return found_port(best, reads);
+        }
+    }
+}
+
+// Whether a table of n rows is in good order.
+pub fn is_good(rows: &[u32], n: u32) -> bool
+    ensures { λ r. ⌜ r ≡ isGood 32 (capacity (now (rows .entry))) (rowAt (now (rows .entry))) n ⌝ }
+{
+    if capacity_of(rows) < n {
+        return false;
+    }
+    if n == 0 {
+        return true;
+    }
+    let seen = seen_at(rows, n, Prefix::WHOLE, 0);
+    !seen.wrong & (seen.rows == n as u64)
+}
+
+// Checks that a table of n rows is in good order. Refuses 11, at place 0, exactly where it is not.
+pub fn check(rows: &[u32], n: u32) -> Answer
+    ensures { λ r. ⌜ r ≡ tableCheck 32 (capacity (now (rows .entry))) (rowAt (now (rows .entry))) n ⌝ }
+{
+    if is_good(rows, n) {
+        Answer::accepted(0)
+    } else {
+        Answer::refused(NOT_IN_ORDER, 0)
+    }
+}

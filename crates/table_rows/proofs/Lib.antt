@@ -1,0 +1,3 @@
+-- That each promise leaves no choice.
+pub mod Unique
+pub mod Words

@@ -1,0 +1,22 @@
+-- Laws of rows that hold a trie.
+pub mod Paths
+pub mod Holds
+pub mod Frame
+pub mod Lookup
+pub mod Announce
+pub mod Best
+pub mod Withdraw
+pub mod Move
+pub mod Table
+pub mod Closed
+pub mod Ascending
+pub mod Built
+pub mod Good
+pub mod Looked
+pub mod Ordered
+pub mod Place
+pub mod Reached
+pub mod Right
+pub mod Saved
+pub mod Walk
+pub mod CheckWalk

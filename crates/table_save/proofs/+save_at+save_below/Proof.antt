@@ -1,0 +1,414 @@
+use mathlib.Core.Path.{ap, _∙_}
+use mathlib.Core.Bool.{true, false}
+use native.Mathlib.Omega.{arith}
+use borrow.Author.Needs.{needs}
+use lib.ListN.{length}
+use Rattle.table_rows.specs.Words.{rowCount, rowAt}
+use Rattle.table_save.proofs.Writing.{ready-row, size-last, wrote-last, size-more, ready-child, wrote-more, wrote-none, below-is, wrote-below}
+use Prim.Native.Nat.{_*_, _+_}
+use Prim.Native.Nat.{ℕ, _<_}
+use borrow.Fn.Kinds.{In}
+use borrow.Fn.PlainCycle.{Measures, is, falls, and}
+use Rattle.table_save.proofs.save_at.Reads as save-at
+use Rattle.table_save.proofs.save_at.Kinds as save-at-kinds
+use Rattle.table_save.proofs.+save_at+save_below.Lts-save_at as save-at-lts
+use Rattle.table_save.proofs.save_below.Reads as save-below
+use Rattle.table_save.proofs.save_below.Kinds as save-below-kinds
+use Rattle.table_save.proofs.+save_at+save_below.Lts-save_below as save-below-lts
+use Rattle.table_rows.proofs.row_at.Reads as row-at-reads
+use Rattle.table_save.proofs.put_route.Reads as put-route-reads
+use Rattle.table_save.proofs.route_of.Reads as route-of-reads
+use Rattle.table_save.proofs.sink_route.Reads as sink-route-reads
+use Rattle.table_save.proofs.+save_at+save_below.{statement}
+use Rattle.table_save.proofs.+save_at+save_below.Tie.{close}
+
+abbrev μ-save-at : Measures 2 save-at-kinds.ps ℕ
+μ-save-at κs a = a .1 .0 * 2
+
+abbrev μ-save-below : Measures 2 save-below-kinds.ps ℕ
+μ-save-below κs a = a .1 .0 * 2 + 1
+
+abbrev save-at-at : ℕ → In 2 save-at-kinds.ps
+save-at-at t = and 2 save-at-kinds.ps (is 2 save-at-kinds.ps μ-save-at t) save-at.Pre
+
+abbrev save-at-below : ℕ → In 2 save-at-kinds.ps
+save-at-below t = and 2 save-at-kinds.ps (falls 2 save-at-kinds.ps _<_ μ-save-at t) save-at.Pre
+
+abbrev save-below-at : ℕ → In 2 save-below-kinds.ps
+save-below-at t =
+    and 2 save-below-kinds.ps (is 2 save-below-kinds.ps μ-save-below t) save-below.Pre
+
+abbrev save-below-below : ℕ → In 2 save-below-kinds.ps
+save-below-below t =
+    and 2 save-below-kinds.ps (falls 2 save-below-kinds.ps _<_ μ-save-below t) save-below.Pre
+
+save-at-row-at-requires : (t : ℕ) → save-at-lts.Need-row-at-requires (
+  row-at-reads.Asked,
+  row-at-reads.Learnt,
+  route-of-reads.Asked,
+  route-of-reads.Learnt,
+  put-route-reads.Asked,
+  put-route-reads.Learnt,
+  save-below-below t,
+  save-below.Post,
+  sink-route-reads.Asked,
+  sink-route-reads.Learnt,
+) (save-at-at t) save-at.Post
+save-at-row-at-requires t c κs = search needs
+
+save-at-route-of-requires : (t : ℕ) → save-at-lts.Need-route-of-requires (
+  row-at-reads.Asked,
+  row-at-reads.Learnt,
+  route-of-reads.Asked,
+  route-of-reads.Learnt,
+  put-route-reads.Asked,
+  put-route-reads.Learnt,
+  save-below-below t,
+  save-below.Post,
+  sink-route-reads.Asked,
+  sink-route-reads.Learnt,
+) (save-at-at t) save-at.Post
+save-at-route-of-requires t c κs = search needs
+
+save-at-put-route-requires : (t : ℕ) → save-at-lts.Need-put-route-requires (
+  row-at-reads.Asked,
+  row-at-reads.Learnt,
+  route-of-reads.Asked,
+  route-of-reads.Learnt,
+  put-route-reads.Asked,
+  put-route-reads.Learnt,
+  save-below-below t,
+  save-below.Post,
+  sink-route-reads.Asked,
+  sink-route-reads.Learnt,
+) (save-at-at t) save-at.Post
+save-at-put-route-requires t c κs =
+    let a = c .before .before .before .before .before .before in
+    omega (arith, size-last (rowAt (a .args .rows .now)) (a .args .left) (a .args .row) (c .before .before .if1 .taken), a .pre .1 .1)
+
+save-at-add-result : (t : ℕ) → save-at-lts.Need-add-result (
+  row-at-reads.Asked,
+  row-at-reads.Learnt,
+  route-of-reads.Asked,
+  route-of-reads.Learnt,
+  put-route-reads.Asked,
+  put-route-reads.Learnt,
+  save-below-below t,
+  save-below.Post,
+  sink-route-reads.Asked,
+  sink-route-reads.Learnt,
+) (save-at-at t) save-at.Post
+save-at-add-result t c =
+    let a = c .before .before .before .before .before .before .before .before .before in
+    omega (arith, size-last (rowAt (a .args .rows .now)) (a .args .left) (a .args .row) (c .before .before .before .before .before .if1 .taken), a .pre .1 .1)
+
+save-at-same-length : (t : ℕ) → save-at-lts.Need-same-length (
+  row-at-reads.Asked,
+  row-at-reads.Learnt,
+  route-of-reads.Asked,
+  route-of-reads.Learnt,
+  put-route-reads.Asked,
+  put-route-reads.Learnt,
+  save-below-below t,
+  save-below.Post,
+  sink-route-reads.Asked,
+  sink-route-reads.Learnt,
+) (save-at-at t) save-at.Post
+save-at-same-length t c = c .before .before .put-route .kept .0
+
+save-at-returns : (t : ℕ) → save-at-lts.Need-returns (
+  row-at-reads.Asked,
+  row-at-reads.Learnt,
+  route-of-reads.Asked,
+  route-of-reads.Learnt,
+  put-route-reads.Asked,
+  put-route-reads.Learnt,
+  save-below-below t,
+  save-below.Post,
+  sink-route-reads.Asked,
+  sink-route-reads.Learnt,
+) (save-at-at t) save-at.Post
+save-at-returns t c =
+    let p = c .before .before in
+    let i = p .before .before .before in
+    let a = i .before .before .before .before in
+    wrote-last (rowAt (a .args .rows .now)) (a .args .left) (a .args .row) (a .args .at) _ _ _ _ (i .if1 .taken) (i .before .row-at .ensures) (p .before .route-of .ensures) (p .put-route .ensures)
+
+save-at-sub-save-below : (t : ℕ) → save-at-lts.Need-sub-save-below (
+  row-at-reads.Asked,
+  row-at-reads.Learnt,
+  route-of-reads.Asked,
+  route-of-reads.Learnt,
+  put-route-reads.Asked,
+  put-route-reads.Learnt,
+  save-below-below t,
+  save-below.Post,
+  sink-route-reads.Asked,
+  sink-route-reads.Learnt,
+) (save-at-at t) save-at.Post
+save-at-sub-save-below t c =
+    let ne = c .if1 .left in
+    omega arith
+
+save-at-save-below-requires : (t : ℕ) → save-at-lts.Need-save-below-requires (
+  row-at-reads.Asked,
+  row-at-reads.Learnt,
+  route-of-reads.Asked,
+  route-of-reads.Learnt,
+  put-route-reads.Asked,
+  put-route-reads.Learnt,
+  save-below-below t,
+  save-below.Post,
+  sink-route-reads.Asked,
+  sink-route-reads.Learnt,
+) (save-at-at t) save-at.Post
+save-at-save-below-requires t c κs =
+    let ne = c .before .if1 .left in
+    let r = c .before .before in
+    let a = r .before .before .before in
+    let M = rowAt (a .args .rows .now) in (
+      omega arith,
+      (
+        ready-child M (rowCount (a .args .rows .now)) (a .args .left) (a .args .row) _ ne (r .row-at .ensures) (a .pre .1 .0) false,
+        omega (arith, size-more M (a .args .left) (a .args .row) _ ne (r .row-at .ensures), a .pre .1 .1),
+      ),
+    )
+
+save-at-sub-save-below-2 : (t : ℕ) → save-at-lts.Need-sub-save-below-2 (
+  row-at-reads.Asked,
+  row-at-reads.Learnt,
+  route-of-reads.Asked,
+  route-of-reads.Learnt,
+  put-route-reads.Asked,
+  put-route-reads.Learnt,
+  save-below-below t,
+  save-below.Post,
+  sink-route-reads.Asked,
+  sink-route-reads.Learnt,
+) (save-at-at t) save-at.Post
+save-at-sub-save-below-2 t c =
+    let ne = c .before .before .before .before .if1 .left in
+    omega arith
+
+save-at-save-below-requires-2 : (t : ℕ) → save-at-lts.Need-save-below-requires-2 (
+  row-at-reads.Asked,
+  row-at-reads.Learnt,
+  route-of-reads.Asked,
+  route-of-reads.Learnt,
+  put-route-reads.Asked,
+  put-route-reads.Learnt,
+  save-below-below t,
+  save-below.Post,
+  sink-route-reads.Asked,
+  sink-route-reads.Learnt,
+) (save-at-at t) save-at.Post
+save-at-save-below-requires-2 t c κs =
+    let s = c .before .before .before in
+    let ne = s .before .before .if1 .left in
+    let r = s .before .before .before in
+    let a = r .before .before .before in
+    let M = rowAt (a .args .rows .now) in (
+      omega arith,
+      (
+        ready-child M (rowCount (a .args .rows .now)) (a .args .left) (a .args .row) _ ne (r .row-at .ensures) (a .pre .1 .0) true,
+        omega (
+          arith,
+          size-more M (a .args .left) (a .args .row) _ ne (r .row-at .ensures),
+          a .pre .1 .1,
+          s .save-below .ensures .end,
+          s .save-below .kept .1 .1 .1 .0,
+        ),
+      ),
+    )
+
+save-at-route-of-requires-2 : (t : ℕ) → save-at-lts.Need-route-of-requires-2 (
+  row-at-reads.Asked,
+  row-at-reads.Learnt,
+  route-of-reads.Asked,
+  route-of-reads.Learnt,
+  put-route-reads.Asked,
+  put-route-reads.Learnt,
+  save-below-below t,
+  save-below.Post,
+  sink-route-reads.Asked,
+  sink-route-reads.Learnt,
+) (save-at-at t) save-at.Post
+save-at-route-of-requires-2 t c κs = search needs
+
+save-at-sink-route-requires : (t : ℕ) → save-at-lts.Need-sink-route-requires (
+  row-at-reads.Asked,
+  row-at-reads.Learnt,
+  route-of-reads.Asked,
+  route-of-reads.Learnt,
+  put-route-reads.Asked,
+  put-route-reads.Learnt,
+  save-below-below t,
+  save-below.Post,
+  sink-route-reads.Asked,
+  sink-route-reads.Learnt,
+) (save-at-at t) save-at.Post
+save-at-sink-route-requires t c κs =
+    let u = c .before .before .before .before in
+    let s = u .before .before .before .before in
+    let ne = s .before .before .if1 .left in
+    let r = s .before .before .before in
+    let a = r .before .before .before in
+    let M = rowAt (a .args .rows .now) in (
+      omega (arith, u .save-below2 .ensures .end, s .save-below .ensures .end),
+      omega (
+        arith,
+        size-more M (a .args .left) (a .args .row) _ ne (r .row-at .ensures),
+        a .pre .1 .1,
+        u .save-below2 .ensures .end,
+        s .save-below .ensures .end,
+        u .save-below2 .kept .1 .1 .1 .0,
+        s .save-below .kept .1 .1 .1 .0,
+      ),
+    )
+
+save-at-add-result-2 : (t : ℕ) → save-at-lts.Need-add-result-2 (
+  row-at-reads.Asked,
+  row-at-reads.Learnt,
+  route-of-reads.Asked,
+  route-of-reads.Learnt,
+  put-route-reads.Asked,
+  put-route-reads.Learnt,
+  save-below-below t,
+  save-below.Post,
+  sink-route-reads.Asked,
+  sink-route-reads.Learnt,
+) (save-at-at t) save-at.Post
+save-at-add-result-2 t c =
+    let u = c .before .before .before .before .before .before .before in
+    let s = u .before .before .before .before in
+    let ne = s .before .before .if1 .left in
+    let r = s .before .before .before in
+    let a = r .before .before .before in
+    let M = rowAt (a .args .rows .now) in
+    omega (
+      arith,
+      size-more M (a .args .left) (a .args .row) _ ne (r .row-at .ensures),
+      a .pre .1 .1,
+      u .save-below2 .ensures .end,
+      s .save-below .ensures .end,
+    )
+
+save-at-same-length-2 : (t : ℕ) → save-at-lts.Need-same-length-2 (
+  row-at-reads.Asked,
+  row-at-reads.Learnt,
+  route-of-reads.Asked,
+  route-of-reads.Learnt,
+  put-route-reads.Asked,
+  put-route-reads.Learnt,
+  save-below-below t,
+  save-below.Post,
+  sink-route-reads.Asked,
+  sink-route-reads.Learnt,
+) (save-at-at t) save-at.Post
+save-at-same-length-2 t c =
+    let p = c .before .before in
+    let u = p .before .before .before .before .before in
+    let s = u .before .before .before .before in
+    p .sink-route .kept .0 ∙ u .save-below2 .kept .1 .1 .1 .0 ∙ s .save-below .kept .1 .1 .1 .0
+
+save-at-returns-2 : (t : ℕ) → save-at-lts.Need-returns-2 (
+  row-at-reads.Asked,
+  row-at-reads.Learnt,
+  route-of-reads.Asked,
+  route-of-reads.Learnt,
+  put-route-reads.Asked,
+  put-route-reads.Learnt,
+  save-below-below t,
+  save-below.Post,
+  sink-route-reads.Asked,
+  sink-route-reads.Learnt,
+) (save-at-at t) save-at.Post
+save-at-returns-2 t c =
+    let p = c .before .before in
+    let u = p .before .before .before .before .before in
+    let s = u .before .before .before .before in
+    let ne = s .before .before .if1 .left in
+    let r = s .before .before .before in
+    let a = r .before .before .before in
+    let M = rowAt (a .args .rows .now) in
+    wrote-more M (rowCount (a .args .rows .now)) (a .args .left) (a .args .row) (a .args .at) _ _ _ _ _ _ _ _ ne (r .row-at .ensures) (a .pre .1 .0) (a .pre .1 .1) (s .save-below .ensures) (u .save-below2 .ensures) (p .before .route-of2 .ensures) (p .sink-route .ensures)
+
+save-below-returns :
+    (t : ℕ) →
+    save-below-lts.Need-returns (save-at-below t, save-at.Post) (save-below-at t) save-below.Post
+save-below-returns t c =
+    let a = c .before .before .before in
+    wrote-none (rowAt (a .args .rows .now)) (a .args .left) (a .args .child) (a .args .at) _ (c .if1 .taken)
+
+save-below-save-at-requires : (t : ℕ) → save-below-lts.Need-save-at-requires (
+  save-at-below t,
+  save-at.Post,
+) (save-below-at t) save-below.Post
+save-below-save-at-requires t c κs =
+    let a = c .before .before .before .before in
+    let ne = c .before .if1 .left in
+    let M = rowAt (a .args .rows .now) in (
+      omega arith,
+      (
+        a .pre .1 .0 (omega arith),
+        omega (arith, a .pre .1 .1, ap length (below-is M (a .args .left) (a .args .child) ne)),
+      ),
+    )
+
+save-below-same-length :
+    (t : ℕ) →
+    save-below-lts.Need-same-length
+    (save-at-below t, save-at.Post)
+    (save-below-at t)
+    save-below.Post
+save-below-same-length t c = c .before .before .save-at .kept .1 .1 .1 .0
+
+save-below-returns-2 :
+    (t : ℕ) →
+    save-below-lts.Need-returns-2
+    (save-at-below t, save-at.Post)
+    (save-below-at t)
+    save-below.Post
+save-below-returns-2 t c =
+    let s = c .before .before in
+    let a = s .before .before .before .before .before in
+    wrote-below (rowAt (a .args .rows .now)) (a .args .left) (a .args .child) (a .args .at) _ _ _ (s .before .before .if1 .left) (s .save-at .ensures)
+
+pub +save-at+save-below-spec : {M : Type 1} → statement M
++save-at+save-below-spec = close μ-save-at μ-save-below (λ t. save-at-lts.spec (
+  row-at-reads.Asked,
+  row-at-reads.Learnt,
+  route-of-reads.Asked,
+  route-of-reads.Learnt,
+  put-route-reads.Asked,
+  put-route-reads.Learnt,
+  save-below-below t,
+  save-below.Post,
+  sink-route-reads.Asked,
+  sink-route-reads.Learnt,
+)
+    (save-at-at t)
+    save-at.Post
+    (save-at-row-at-requires t)
+    (save-at-route-of-requires t)
+    (save-at-put-route-requires t)
+    (save-at-add-result t)
+    (save-at-same-length t)
+    (save-at-returns t)
+    (save-at-sub-save-below t)
+    (save-at-save-below-requires t)
+    (save-at-sub-save-below-2 t)
+    (save-at-save-below-requires-2 t)
+    (save-at-route-of-requires-2 t)
+    (save-at-sink-route-requires t)
+    (save-at-add-result-2 t)
+    (save-at-same-length-2 t)
+    (save-at-returns-2 t))
+    λ t. save-below-lts.spec
+    (save-at-below t, save-at.Post)
+    (save-below-at t)
+    save-below.Post
+    (save-below-returns t)
+    (save-below-save-at-requires t)
+    (save-below-same-length t)
+    (save-below-returns-2 t)

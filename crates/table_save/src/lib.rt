@@ -1,0 +1,113 @@
+// Saving a table as a list. The walk writes the routes in ascending order: what lies to the left, what lies to the right, and
+// then the row's own route into its place among them. A route moves up at most once for each row above it.
+ghost use mathlib.Core.Path.{_≡_};
+ghost use Prim.Native.Nat.{_+_, _-_, _*_, _<_, _≤_};
+ghost use lib.ListN.{length};
+ghost use Rattle.promise.specs.Over.{outcome};
+ghost use Rattle.bits.specs.Prefix.{precedes};
+ghost use Rattle.table_rules.specs.Rows.{routeOf};
+ghost use Rattle.table_rows.specs.Words.{rowCount, capacity, rowAt};
+ghost use Rattle.table_rules.specs.Save.{savedAt, saveInto};
+ghost use Rattle.table_rules.specs.Walk.{savedBelow};
+ghost use Rattle.table_rules.specs.Ready.{Ready};
+ghost use Rattle.table_save.specs.Writing.{putRoute, sunk, Wrote};
+use prefix::Prefix;
+use routes::Answer;
+use routes::Route;
+use routes::refusal::NO_ROOM;
+use routes::refusal::NOT_IN_ORDER;
+use table_lookup::is_good;
+use table_rows::row_at;
+use table_rules::Row;
+
+// A row's route.
+fn route_of(x: Row) -> Route
+    ensures { λ r. ⌜ r ≡ routeOf x ⌝ }
+{
+    Route {
+        value: x.value,
+        len: x.len,
+        port: x.port,
+    }
+}
+
+// Whether a route stands before another in a list.
+fn stands_before(a: Route, b: Route) -> bool
+    ensures { λ r. ⌜ r ≡ precedes (a .value) (a .len) (b .value) (b .len) ⌝ }
+{
+    Prefix::new(a.value, a.len).precedes(Prefix::new(b.value, b.len))
+}
+
+// Stores route i of a list, which is lent whole.
+fn put_route(list: &mut [u32], i: usize, q: Route)
+    requires { ⌜ i * 3 + 2 < length (now list) ⌝ }
+    ensures { λ _. ⌜ now (list .exit) ≡ putRoute (now (list .entry)) i q ⌝ }
+{
+    let at = i * 3;
+    list[at] = q.value;
+    list[at + 1] = q.len;
+    list[at + 2] = q.port;
+}
+
+// Puts a route into its place among the routes from `at` to `end`: each that stands after it moves up by one.
+fn sink_route(list: &mut [u32], at: usize, end: usize, q: Route)
+    requires { ⌜ (at ≤ end) × (end * 3 + 2 < length (now list)) ⌝ }
+    ensures { λ _. ⌜ now (list .exit) ≡ sunk (now (list .entry)) at (end - at) q ⌝ }
+{
+    let mut i = end;
+    while at < i {
+        let before = routes::route_at(list, i - 1);
+        if stands_before(before, q) {
+            put_route(list, i, q);
+            return;
+        }
+        put_route(list, i, before);
+        i -= 1;
+    }
+    put_route(list, i, q);
+}
+
+// Writes the routes from a row on, with `left` bits after its depth, from route `at` of the list on. Answers where it ended.
+fn save_at(rows: &[u32], left: u32, row: u32, list: &mut [u32], at: usize) -> usize
+    requires { ⌜ Ready (rowAt (now rows)) (rowCount (now rows)) left row × ((at + length (savedAt (rowAt (now rows)) left row)) * 3 ≤ length (now list)) ⌝ }
+    ensures { λ r. ⌜ Wrote (savedAt (rowAt (now (rows .entry))) left row) at r (now (list .entry)) (now (list .exit)) ⌝ }
+{
+    let x = row_at(rows, row);
+    if left == 0 {
+        put_route(list, at, route_of(x));
+        return at + 1;
+    }
+    let middle = save_below(rows, left - 1, x.left, list, at);
+    let end = save_below(rows, left - 1, x.right, list, middle);
+    sink_route(list, at, end, route_of(x));
+    end + 1
+}
+
+// The routes below a row on one side; 0 as a child means none.
+fn save_below(rows: &[u32], left: u32, child: u32, list: &mut [u32], at: usize) -> usize
+    requires { ⌜ (0 < child → Ready (rowAt (now rows)) (rowCount (now rows)) left child) × ((at + length (savedBelow (rowAt (now rows)) left child)) * 3 ≤ length (now list)) ⌝ }
+    ensures { λ r. ⌜ Wrote (savedBelow (rowAt (now (rows .entry))) left child) at r (now (list .entry)) (now (list .exit)) ⌝ }
+{
+    if child == 0 {
+        return at;
+    }
+    save_at(rows, left, child, list, at)
+}
+
+// Saves a table of n rows as a list, over the front of the words lent. Refuses 11 where the table is not in good order, then 9
+// where the words lent have no room for n routes, both at place 0; a refusal writes nothing.
+pub fn save(rows: &[u32], n: u32, list: &mut [u32]) -> Answer
+    ensures { λ r. ⌜ outcome r (now (list .exit)) ≡ saveInto 32 (capacity (now (rows .entry))) (rowAt (now (rows .entry))) n (now (list .entry)) ⌝ }
+{
+    if is_good(rows, n) {
+        if list.len() / 3 < n as usize {
+            return Answer::refused(NO_ROOM, 0);
+        }
+        if n == 0 {
+            return Answer::accepted(0);
+        }
+        save_at(rows, 32, 0, list, 0);
+        return Answer::accepted(n);
+    }
+    Answer::refused(NOT_IN_ORDER, 0)
+}

@@ -20,7 +20,7 @@ use Rattle.table_rules.proofs.Lookup.{lookup-is-scan}
 use Rattle.table_rows.proofs.Words.{words-stores}
 use Rattle.table_update.specs.Calls.{builtFrom, buildInto}
 use Rattle.table_update.specs.History.{ran}
-use Rattle.table_update.proofs.Built.{built-lookup-is-scan}
+use Rattle.table_update.proofs.BuildIsGood.{built-lookup-is-scan}
 use Rattle.table_update.proofs.History.{history-is}
 use Rattle.image_rules.specs.Lookup.{isStride, Strided}
 use Rattle.image_build.specs.Build.{buildImage}
@@ -28,7 +28,7 @@ use Rattle.image_build.proofs.Scanned.{built-is-scan}
 use Rattle.runs_rules.specs.Runs.{runs}
 use Rattle.runs_rules.proofs.Runs.{listing-unique, listing-exists}
 use Rattle.runs_rules.proofs.Listing.{list-runs-done}
-use Rattle.table_runs.proofs.Tabled.{table-runs-done}
+use Rattle.table_runs.proofs.OfTable.{table-runs-done}
 use Rattle.demands.specs.Demands.{Demand1, Demand2, Demand3, emptyTable, heldAfter}
 use Rattle.demands.proofs.OfLists.{read-refuses, write-refuses, check-refuses, scan-refuses, list-runs-refuses}
 use Rattle.demands.proofs.OfTables.{table-check-refuses, lookup-refuses, announce-refuses, withdraw-refuses, build-refuses, save-refuses, table-runs-refuses}

@@ -26,7 +26,7 @@ use Rattle.table_update.specs.Calls.{withdrawIn, withdrawInto}
 use Rattle.image_rules.specs.Image.{someLonger, imagePaths, imageNodes, imagePorts}
 use Rattle.image_rules.specs.Lookup.{isStride, lookupWords}
 use Rattle.image_rules.specs.Lookup as breadth
-use Rattle.image_build.specs.Build.{left, doneBuild, listed, buildImage}
+use Rattle.image_build.specs.Build.{left, doneBuild, listRoutes, buildImage}
 use Rattle.runs_rules.specs.Boundaries.{insert, boundaries, runsBy}
 use Rattle.runs_rules.specs.Listing as runs
 use Rattle.runs_rules.specs.Runs.{run, runWords}
@@ -120,7 +120,7 @@ sevenBits =
     ∷ ofBits (true ∷ false ∷ []) 2 ∷ ofBits (true ∷ true ∷ false ∷ false ∷ []) 6 ∷ ofBits (true ∷ true ∷ false ∷ true ∷ []) 7
     ∷ ofBits (true ∷ true ∷ true ∷ []) 5 ∷ []
 
-seven-listed : listed 32 seven ≡ sevenBits
+seven-listed : listRoutes 32 seven ≡ sevenBits
 unfolding listOf bits
 seven-listed = refl
 
@@ -129,7 +129,7 @@ unfolding listCheck routesCheck firstFault faultAt
 seven-fine = refl
 
 -- an image that has exactly the room it needs
-module _ (s : ℕ) (list nodes ports : List ℕ) (rs : List BitRoute) (is : listed 32 list ≡ rs) (fine : listCheck 32 list ≡ accepted 0)
+module _ (s : ℕ) (list nodes ports : List ℕ) (rs : List BitRoute) (is : listRoutes 32 list ≡ rs) (fine : listCheck 32 list ≡ accepted 0)
     (stride : isStride s ≡ true) (nodesAre : imageNodes s (32 / s) rs ≡ nodes) (portsAre : imagePorts s (32 / s) rs ≡ ports) where
   image-is : (lentNodes lentPorts : List ℕ) → (leb (length nodes) (length lentNodes) && leb (length ports) (length lentPorts)) ≡ true
       → buildImage 32 s list lentNodes lentPorts

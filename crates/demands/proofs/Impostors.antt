@@ -33,7 +33,7 @@ use Rattle.runs_rules.specs.Runs.{Run, run, Lists}
 use Rattle.runs_rules.specs.Listing.{writeRuns}
 use Rattle.runs_rules.proofs.Listing.{listed-lists, listed-none, list-runs-done}
 use Rattle.table_runs.specs.TableRuns.{tableRoutes, tableRuns}
-use Rattle.demands.specs.Impostors.{TableCall, ImageCall, announcing, withdrawing, lookingUp, seeking, ImpostorsStopped, EachAccepts, RowsReadArePath, NodesReadArePassed}
+use Rattle.demands.specs.Impostors.{TableCall, ImageCall, announceCall, withdrawCall, lookupCall, imageLookupCall, ImpostorsStopped, EachAccepts, RowsReadArePath, NodesReadArePassed}
 use Rattle.demands.proofs.Steps.{seen-row}
 use Rattle.demands.proofs.Demands.{demand-2}
 use Rattle.demands.proofs.Examples.{eleven}
@@ -66,24 +66,24 @@ good-one =
     let row0 : seenAt 32 (rowAt (oneRow 1)) 1 32 0 0 ≡ seen 1 0 0 = seen-row 32 (rowAt (oneRow 1)) 1 31 0 0 noRows noRows refl refl refl in
     rw row0
 
-announced-free : announcing onFree ≡ outcome (accepted 1) (oneRow 1)
+announced-free : announceCall onFree ≡ outcome (accepted 1) (oneRow 1)
 unfolding announceInto announceIn isGood announced rowAt storeRow
 announced-free = refl
 
-announced-one : announcing onOne ≡ outcome (accepted 1) (oneRow 2)
+announced-one : announceCall onOne ≡ outcome (accepted 1) (oneRow 2)
 unfolding announceInto announceIn announced sink heldAt rowAt storeRow
 announced-one = rw good-one
 
-withdrawn-one : withdrawing onOne ≡ outcome (accepted 0) (oneRow 0)
+withdrawn-one : withdrawCall onOne ≡ outcome (accepted 0) (oneRow 0)
 unfolding withdrawInto withdrawIn withdrawn heldAt rowAt storeRow
 withdrawn-one = rw good-one
 
 -- lookups: nothing in the empty table, one row in the other
-none-found : lookingUp onFree ≡ found 0 0
+none-found : lookupCall onFree ≡ found 0 0
 unfolding lookupIn rowAt storeRow
 none-found = refl
 
-one-found : lookingUp onOne ≡ found 1 1
+one-found : lookupCall onOne ≡ found 1 1
 unfolding lookupIn walk rowAt storeRow
 one-found = refl
 
@@ -100,15 +100,15 @@ onOtherPort = image (3 ∷ 0 ∷ 0 ∷ []) (1 ∷ 1 ∷ []) refl
 abbrev onTwoNodes : ImageCall
 onTwoNodes = image (1 ∷ 1 ∷ 0 ∷ 3 ∷ 0 ∷ 1 ∷ []) (0 ∷ 0 ∷ 0 ∷ []) refl
 
-image-found : seeking onImage ≡ answered 0 1
+image-found : imageLookupCall onImage ≡ answered 0 1
 unfolding lookupWords breadth.walk ones onesIn
 image-found = refl
 
-other-port-found : seeking onOtherPort ≡ answered 1 1
+other-port-found : imageLookupCall onOtherPort ≡ answered 1 1
 unfolding lookupWords breadth.walk ones onesIn
 other-port-found = refl
 
-two-nodes-found : seeking onTwoNodes ≡ answered 0 2
+two-nodes-found : imageLookupCall onTwoNodes ≡ answered 0 2
 unfolding lookupWords breadth.walk ones onesIn
 two-nodes-found = refl
 
@@ -131,9 +131,9 @@ impostors-stopped = record {
   refuses-announcements = λ f meets refuses. refuses onFree (ap (λ (o : Outcome Answer). o .answer .number) (meets onFree ∙ announced-free));
   refuses-withdrawals = λ f meets refuses. refuses onOne (ap (λ (o : Outcome Answer). o .answer .number) (meets onOne ∙ withdrawn-one));
   fixed-port = λ f meets fixed.
-      omega (arith, one-number lookingUp f meets (λ x. x .port) onFree onOne (found 0 0) (found 1 1) (fixed .0) none-found one-found (fixed .1 onFree) (fixed .1 onOne));
+      omega (arith, one-number lookupCall f meets (λ x. x .port) onFree onOne (found 0 0) (found 1 1) (fixed .0) none-found one-found (fixed .1 onFree) (fixed .1 onOne));
   fixed-port-of-image = λ f meets fixed.
-      omega (arith, one-number seeking f meets (λ x. x .port) onImage onOtherPort (answered 0 1) (answered 1 1) (fixed .0) image-found other-port-found (fixed .1 onImage) (fixed .1 onOtherPort));
+      omega (arith, one-number imageLookupCall f meets (λ x. x .port) onImage onOtherPort (answered 0 1) (answered 1 1) (fixed .0) image-found other-port-found (fixed .1 onImage) (fixed .1 onOtherPort));
   untouched-by-announcing = λ f meets leaves.
       omega (arith, ap portWord (sym (leaves onFree) ∙ ap (λ (o : Outcome Answer). o .lent) (meets onFree ∙ announced-free)));
   untouched-by-withdrawing = λ f meets leaves.
@@ -143,9 +143,9 @@ impostors-stopped = record {
   later-withdrawals-ignored = λ f meets ignores.
       omega (arith, ap portWord (sym (ignores onOne (omega arith)) ∙ ap (λ (o : Outcome Answer). o .lent) (meets onOne ∙ withdrawn-one)));
   invented-rows = λ f meets invents.
-      omega (arith, one-number lookingUp f meets (λ x. x .reads) onFree onOne (found 0 0) (found 1 1) (invents .0) none-found one-found (invents .1 onFree) (invents .1 onOne));
+      omega (arith, one-number lookupCall f meets (λ x. x .reads) onFree onOne (found 0 0) (found 1 1) (invents .0) none-found one-found (invents .1 onFree) (invents .1 onOne));
   invented-nodes = λ f meets invents.
-      omega (arith, one-number seeking f meets (λ x. x .reads) onImage onTwoNodes (answered 0 1) (answered 0 2) (invents .0) image-found two-nodes-found (invents .1 onImage) (invents .1 onTwoNodes));
+      omega (arith, one-number imageLookupCall f meets (λ x. x .reads) onImage onTwoNodes (answered 0 1) (answered 0 2) (invents .0) image-found two-nodes-found (invents .1 onImage) (invents .1 onTwoNodes));
 }
 
 pub rows-read-are-path : RowsReadArePath

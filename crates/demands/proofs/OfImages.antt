@@ -15,8 +15,8 @@ use Rattle.routes.specs.Check.{listCheck}
 use Rattle.routes.specs.declared.Answer.{Answer}
 use Rattle.image_rules.specs.Node.{nodeCount, isNode, bitmapOf}
 use Rattle.image_rules.specs.Image.{imagePaths, imageNodes, imagePorts}
-use Rattle.image_rules.specs.Lookup.{Looked, answered, refusedAt, slotAt, leafOf, childAt, leafAt, walk, isStride, lookupWords}
-use Rattle.image_build.specs.Build.{Left, left, refusedBuild, doneBuild, listed, imageInto, buildImage}
+use Rattle.image_rules.specs.Lookup.{Looked, answered, refusedAt, addressSlot, leafOf, childAt, leafAt, walk, isStride, lookupWords}
+use Rattle.image_build.specs.Build.{Left, left, refusedBuild, doneBuild, listRoutes, imageInto, buildImage}
 use Rattle.demands.specs.Lamp.{shows, done}
 use Rattle.demands.specs.Checks.{imageChecks, nodeChecks, imageLookupChecks}
 use Rattle.demands.proofs.Tells.{Tells, tells-as, tells-le, tells-lt, tells-eq, tells-and}
@@ -53,16 +53,16 @@ pub image-build-refuses : (w s : ℕ) (list nodes ports : List ℕ)
 unfolding buildImage
 image-build-refuses w s list nodes ports =
     let v = building nodes ports in
-    let ns = imageNodes s (w / s) (listed w list) in
-    let ps = imagePorts s (w / s) (listed w list) in
+    let ns = imageNodes s (w / s) (listRoutes w list) in
+    let ps = imagePorts s (w / s) (listRoutes w list) in
     let no-room = left (refusedBuild noRoom 0) nodes ports in
-    let made : Answer → Left = λ c. cond (eqb (c .number) 0) (imageInto s (w / s) (listed w list) nodes ports) (left (refusedBuild (c .number) (c .place)) nodes ports) in
+    let made : Answer → Left = λ c. cond (eqb (c .number) 0) (imageInto s (w / s) (listRoutes w list) nodes ports) (left (refusedBuild (c .number) (c .place)) nodes ports) in
     on-test v (isStride s) _ (tells-stride s) wrongStride 0 _ (λ b. cond b (made (listCheck w list)) (left (refusedBuild wrongStride 0) nodes ports))
     (on-list v made (λ m p some. rw (ne-eqb m 0 (λ e. omega arith)) (refused-on nodes ports m p)) w list _
     (on-test v (leb (length ns) (length nodes) && leb (length ps) (length ports)) _
     (tells-and (leb (length ns) (length nodes)) (leb (length ps) (length ports)) _ _ (tells-le (length ns) (length nodes)) (tells-le (length ps) (length ports)))
     noRoom 0 done
-    (λ b. cond b (left (doneBuild (length (imagePaths s (w / s) (listed w list))) (length ps)) (over ns nodes) (over ps ports)) no-room)
+    (λ b. cond b (left (doneBuild (length (imagePaths s (w / s) (listRoutes w list))) (length ps)) (over ns nodes) (over ps ports)) no-room)
     (record { exact = (refl, refl); kept = λ wrong. absurd (wrong refl) }) (refused-on nodes ports noRoom 0)))
     (refused-on nodes ports wrongStride 0)
 
@@ -80,10 +80,10 @@ unfolding walk
 nodes-refuse s nodes ports a zero i reads = lost-on notInOrder reads
 nodes-refuse s nodes ports a (suc k) i reads =
     let map = bitmapOf nodes i in
-    let bit = slotBit (2 ^ s) map (slotAt s a k) in
-    let leaf = leafOf (2 ^ s) nodes i (slotAt s a k) in
+    let bit = slotBit (2 ^ s) map (addressSlot s a k) in
+    let leaf = leafOf (2 ^ s) nodes i (addressSlot s a k) in
     let port = getD ports leaf 0 in
-    let below = walk s nodes ports a k (childAt (2 ^ s) nodes i (slotAt s a k)) (reads + 1) in
+    let below = walk s nodes ports a k (childAt (2 ^ s) nodes i (addressSlot s a k)) (reads + 1) in
     let slot = cond (eqb bit 1) (leafAt ports leaf (reads + 1)) below in
     on-test searching (isNode nodes i) _ (tells-node nodes i) notInOrder 0 _
     (λ b. cond b (cond (ltb map (2 ^ (2 ^ s))) slot (refusedAt notInOrder (reads + 1))) (refusedAt notInOrder reads))
@@ -95,7 +95,7 @@ nodes-refuse s nodes ports a (suc k) i reads =
     (λ b. cond b (answered port (reads + 1)) (refusedAt notInOrder (reads + 1)))
     (record { exact = (refl, refl); kept = λ wrong. absurd (wrong refl) }) (lost-on notInOrder (reads + 1)))
     (lost-on notInOrder (reads + 1)))
-    (nodes-refuse s nodes ports a k (childAt (2 ^ s) nodes i (slotAt s a k)) (reads + 1)))
+    (nodes-refuse s nodes ports a k (childAt (2 ^ s) nodes i (addressSlot s a k)) (reads + 1)))
     (lost-on notInOrder (reads + 1)))
     (lost-on notInOrder reads)
 

@@ -18,7 +18,7 @@ use Rattle.table_rows.specs.Words.{capacity, rowAt}
 use Rattle.table_rules.specs.Holds.{GoodFor, GoodOrder}
 use Rattle.table_rules.specs.Lookup.{wrongRow, endsAt}
 use Rattle.image_rules.specs.Node.{nodeCount, bitmapOf}
-use Rattle.image_rules.specs.Lookup.{slotAt, leafOf, childAt}
+use Rattle.image_rules.specs.Lookup.{addressSlot, leafOf, childAt}
 use Rattle.image_rules.specs.Image.{imageNodes, imagePorts}
 use Rattle.image_build.specs.Build as build
 use Rattle.runs_rules.specs.Runs.{Run}
@@ -131,7 +131,7 @@ strideCheck s rest = refuse wrongStride 0 ((s ≡ 1 → ⊥) × (s ≡ 2 → ⊥
 -- "Image: 12, the list checks, then 9 for nodes or ports"
 abbrev pub imageChecks : ℕ → ℕ → List ℕ → List ℕ → List ℕ → Verdict
 imageChecks w s list nodes ports =
-    let rs : List BitRoute = build.listed w list in
+    let rs : List BitRoute = build.listRoutes w list in
     strideCheck s
     (listChecks w list
     (refuse noRoom 0 ((length nodes < length (imageNodes s (w / s) rs)) ⊎ (length ports < length (imagePorts s (w / s) rs))) done))
@@ -142,10 +142,10 @@ nodeChecks s nodes ports a zero i = shows notInOrder 0
 nodeChecks s nodes ports a (suc k) i =
     refuse notInOrder 0 ((i ≡ 0) ⊎ (nodeCount nodes < i))
     (refuse notInOrder 0 (2 ^ (2 ^ s) ≤ bitmapOf nodes i)
-    (whether (slotBit (2 ^ s) (bitmapOf nodes i) (slotAt s a k) ≡ 1)
-    (refuse notInOrder 0 (length ports ≤ leafOf (2 ^ s) nodes i (slotAt s a k))
-    (refuse notInOrder 0 (lastPort < getD ports (leafOf (2 ^ s) nodes i (slotAt s a k)) 0) done))
-    (nodeChecks s nodes ports a k (childAt (2 ^ s) nodes i (slotAt s a k)))))
+    (whether (slotBit (2 ^ s) (bitmapOf nodes i) (addressSlot s a k) ≡ 1)
+    (refuse notInOrder 0 (length ports ≤ leafOf (2 ^ s) nodes i (addressSlot s a k))
+    (refuse notInOrder 0 (lastPort < getD ports (leafOf (2 ^ s) nodes i (addressSlot s a k)) 0) done))
+    (nodeChecks s nodes ports a k (childAt (2 ^ s) nodes i (addressSlot s a k)))))
 
 abbrev pub imageLookupChecks : ℕ → ℕ → List ℕ → List ℕ → ℕ → Verdict
 imageLookupChecks w s nodes ports a = strideCheck s (nodeChecks s nodes ports a (w / s) 1)

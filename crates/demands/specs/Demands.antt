@@ -23,7 +23,7 @@ use Rattle.table_rules.specs.Lookup.{found, lookupIn}
 use Rattle.table_rules.specs.Save.{saveInto}
 use Rattle.table_lookup.specs.Good.{tableCheck}
 use Rattle.table_update.specs.Calls.{announceInto, withdrawInto, buildInto}
-use Rattle.table_update.specs.History.{Call, Table, ran, lastPort, AllFit}
+use Rattle.table_update.specs.History.{Call, Table, ran, portAfter, AllFit}
 use Rattle.image_rules.specs.Image.{passed}
 use Rattle.image_rules.specs.Lookup.{answered, lookupWords}
 use Rattle.image_build.specs.Build as build
@@ -109,7 +109,7 @@ pub record Demand2 : Type 0 where
       (s : ℕ) (list nodes ports : List ℕ) (a : ℕ) → Words 32 list → a < 2 ^ 32 → buildImage 32 s list nodes ports .built .number ≡ 0
       → let built : Left = buildImage 32 s list nodes ports in
       lookupWords 32 s (built .nodes) (built .ports) a
-      ≡ answered (scanOf 32 (routeAt list) (routeCount list) a) (passed (build.listed 32 list) s (32 / s) [] (bits 32 a) + 1)
+      ≡ answered (scanOf 32 (routeAt list) (routeCount list) a) (passed (build.listRoutes 32 list) s (32 / s) [] (bits 32 a) + 1)
   pub read-written :
       (list file lent : List ℕ) → Words 32 list → writeFile 32 list file .answer .number ≡ 0 → length list ≤ length lent
       → readFile 32 (take (writeFile 32 list file .answer .count) (writeFile 32 list file .lent)) lent
@@ -125,7 +125,7 @@ emptyTable rows = record { words = rows; count = 0 }
 
 -- the set of routes after the calls: "for each prefix those of its last accepted call if that was an announcement"
 abbrev pub heldAfter : List ℕ → List Call → Routes
-heldAfter rows calls q = lastPort fiveWords 32 (emptyTable rows) calls q 0
+heldAfter rows calls q = portAfter fiveWords 32 (emptyTable rows) calls q 0
 
 -- DEMAND 3. "From an empty table, after any sequence of announcements and withdrawals, some refused, the routes held are for each
 -- prefix those of its last accepted call if that was an announcement; the run listing names every maximal run of addresses that

@@ -21,7 +21,7 @@ use Rattle.table_lookup.specs.Good.{tableCheck}
 use Rattle.table_update.specs.Calls.{announceInto, withdrawInto, buildInto}
 use Rattle.image_rules.specs.Image.{passed}
 use Rattle.image_rules.specs.Lookup.{Looked, lookupWords}
-use Rattle.image_build.specs.Build.{listed, buildImage}
+use Rattle.image_build.specs.Build.{listRoutes, buildImage}
 use Rattle.runs_rules.specs.Listing.{listRuns}
 use Rattle.table_runs.specs.TableRuns.{tableRuns}
 
@@ -42,17 +42,17 @@ pub record ImageCall : Type 0 where
   pub fit : Words 32 (stride ∷ address ∷ nodes ++ ports)
 
 -- the promises; an address is handed to a lookup as the value
-abbrev pub announcing : TableCall → Outcome Answer
-announcing x = announceInto fiveWords 32 (x .rows) (x .n) (route (x .value) (x .len) (x .port))
+abbrev pub announceCall : TableCall → Outcome Answer
+announceCall x = announceInto fiveWords 32 (x .rows) (x .n) (route (x .value) (x .len) (x .port))
 
-abbrev pub withdrawing : TableCall → Outcome Answer
-withdrawing x = withdrawInto fiveWords 32 (x .rows) (x .n) (x .value) (x .len)
+abbrev pub withdrawCall : TableCall → Outcome Answer
+withdrawCall x = withdrawInto fiveWords 32 (x .rows) (x .n) (x .value) (x .len)
 
-abbrev pub lookingUp : TableCall → Found
-lookingUp x = lookupIn 32 (capacity (x .rows)) (rowAt (x .rows)) (x .n) (x .value)
+abbrev pub lookupCall : TableCall → Found
+lookupCall x = lookupIn 32 (capacity (x .rows)) (rowAt (x .rows)) (x .n) (x .value)
 
-abbrev pub seeking : ImageCall → Looked
-seeking x = lookupWords 32 (x .stride) (x .nodes) (x .ports) (x .address)
+abbrev pub imageLookupCall : ImageCall → Looked
+imageLookupCall x = lookupWords 32 (x .stride) (x .nodes) (x .ports) (x .address)
 
 -- no function that answers what the promise says is such an impostor
 abbrev pub Stopped : {X Y : Type 0} → (X → Y) → ((X → Y) → Type 0) → Type 0
@@ -79,16 +79,16 @@ abbrev pub InventsReads : {X Y : Type 0} → (Y → ℕ) → (X → Y) → Type 
 InventsReads {X} readsOf f = (reads : ℕ) × ((x : X) → readsOf (f x) ≡ reads)
 
 pub record ImpostorsStopped : Type 0 where
-  pub refuses-announcements : Stopped announcing RefusesEverything
-  pub refuses-withdrawals : Stopped withdrawing RefusesEverything
-  pub fixed-port : Stopped lookingUp (FixedPort (λ x. x .port))
-  pub fixed-port-of-image : Stopped seeking (FixedPort (λ x. x .port))
-  pub untouched-by-announcing : Stopped announcing LeavesUntouched
-  pub untouched-by-withdrawing : Stopped withdrawing LeavesUntouched
-  pub first-announcement-only : Stopped announcing FirstOnly
-  pub later-withdrawals-ignored : Stopped withdrawing FirstOnly
-  pub invented-rows : Stopped lookingUp (InventsReads (λ x. x .reads))
-  pub invented-nodes : Stopped seeking (InventsReads (λ x. x .reads))
+  pub refuses-announcements : Stopped announceCall RefusesEverything
+  pub refuses-withdrawals : Stopped withdrawCall RefusesEverything
+  pub fixed-port : Stopped lookupCall (FixedPort (λ x. x .port))
+  pub fixed-port-of-image : Stopped imageLookupCall (FixedPort (λ x. x .port))
+  pub untouched-by-announcing : Stopped announceCall LeavesUntouched
+  pub untouched-by-withdrawing : Stopped withdrawCall LeavesUntouched
+  pub first-announcement-only : Stopped announceCall FirstOnly
+  pub later-withdrawals-ignored : Stopped withdrawCall FirstOnly
+  pub invented-rows : Stopped lookupCall (InventsReads (λ x. x .reads))
+  pub invented-nodes : Stopped imageLookupCall (InventsReads (λ x. x .reads))
 
 -- "the table's exactly when stops it": every other call has something that it accepts, too
 pub record EachAccepts : Type 0 where
@@ -98,26 +98,26 @@ pub record EachAccepts : Type 0 where
   pub list-scan : (list : List ℕ) × (a : ℕ) × (listScan 32 list a .number ≡ 0)
   pub list-runs : (list : List ℕ) × (runs : List ℕ) × (listRuns 32 list runs .answer .number ≡ 0)
   pub table-check : (rows : List ℕ) × (n : ℕ) × (tableCheck 32 (capacity rows) (rowAt rows) n .number ≡ 0)
-  pub table-lookup : (x : TableCall) × (lookingUp x .number ≡ 0)
+  pub table-lookup : (x : TableCall) × (lookupCall x .number ≡ 0)
   pub table-build : (list : List ℕ) × (rows : List ℕ) × (buildInto fiveWords 32 list rows .answer .number ≡ 0)
   pub table-save : (rows : List ℕ) × (n : ℕ) × (list : List ℕ) × (saveInto 32 (capacity rows) (rowAt rows) n list .answer .number ≡ 0)
   pub table-runs : (rows : List ℕ) × (n : ℕ) × (runs : List ℕ) × (tableRuns 32 (capacity rows) (rowAt rows) n runs .answer .number ≡ 0)
   pub image-build :
       (s : ℕ) × (list : List ℕ) × (nodes : List ℕ) × (ports : List ℕ) × (buildImage 32 s list nodes ports .built .number ≡ 0)
-  pub image-lookup : (x : ImageCall) × (seeking x .number ≡ 0)
+  pub image-lookup : (x : ImageCall) × (imageLookupCall x .number ≡ 0)
 
 -- "on a table in good order the number equals that of the trie defined above"
 abbrev pub RowsReadArePath : Type 0
 RowsReadArePath =
-    (f : TableCall → Found) → ((x : TableCall) → f x ≡ lookingUp x)
+    (f : TableCall → Found) → ((x : TableCall) → f x ≡ lookupCall x)
     → (x : TableCall) (S : Routes) (good : GoodFor 32 (capacity (x .rows)) (rowAt (x .rows)) (x .n) S) → x .value < 2 ^ 32
     → f x .reads ≡ reads (good .placed .trie) (bits 32 (x .value))
 
 -- "on a built image it is one more than the non-leaf slots passed"
 abbrev pub NodesReadArePassed : Type 0
 NodesReadArePassed =
-    (f : ImageCall → Looked) → ((x : ImageCall) → f x ≡ seeking x)
+    (f : ImageCall → Looked) → ((x : ImageCall) → f x ≡ imageLookupCall x)
     → (x : ImageCall) (list nodes ports : List ℕ) → Words 32 list → x .address < 2 ^ 32
     → buildImage 32 (x .stride) list nodes ports .built .number ≡ 0
     → x .nodes ≡ buildImage 32 (x .stride) list nodes ports .nodes → x .ports ≡ buildImage 32 (x .stride) list nodes ports .ports
-    → f x .reads ≡ passed (listed 32 list) (x .stride) (32 / x .stride) [] (bits 32 (x .address)) + 1
+    → f x .reads ≡ passed (listRoutes 32 list) (x .stride) (32 / x .stride) [] (bits 32 (x .address)) + 1

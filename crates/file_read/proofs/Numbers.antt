@@ -9,7 +9,7 @@ use lib.ListN.{length, getD, take, drop, length-drop}
 use lib.Seq.{take-suc, getD-drop}
 use Rattle.file_rules.specs.Bytes.{number}
 use Rattle.file_rules.proofs.Bytes.{number-snoc}
-use Rattle.file_read.specs.Parts.{ByteIs, NumberAt}
+use Rattle.file_read.specs.Needs.{ByteIs, NumberAt}
 
 module _ (file : List ℕ) (from : ℕ) where
   pub number-none : NumberAt file from 0 0

@@ -1,3 +1,3 @@
 -- What the parts of the reader give and ask.
-pub mod Parts
 pub mod Step
+pub mod Needs

@@ -2,11 +2,11 @@
 ghost use mathlib.Core.Path.{_≡_};
 ghost use Prim.Native.Nat.{_+_, _*_, _≤_};
 ghost use lib.ListN.{length};
-ghost use Rattle.promise.specs.Over.{over, put3, outcome};
+ghost use Rattle.promise.specs.Over.{over, storeThree, outcome};
 ghost use Rattle.file_rules.specs.File.{fileRoute};
 ghost use Rattle.file_rules.specs.Check.{headFault, fileCheck};
 ghost use Rattle.file_rules.specs.Calls.{listOfRoutes, readFile};
-ghost use Rattle.file_read.specs.Parts.{FitsList};
+ghost use Rattle.file_read.specs.Needs.{FitsList};
 use file_rules::HEAD_SIZE;
 use file_rules::VERSION;
 use file_rules::prefix_bytes;
@@ -70,7 +70,7 @@ fn check_file(file: &[u8]) -> Answer
 // Stores the three words of route i.
 fn put_words(list: &mut [u32], i: usize, r: Route)
     requires { ⌜ i * 3 + 3 ≤ length (now list) ⌝ }
-    ensures { λ _. ⌜ now (list .exit) ≡ put3 (now (list .entry)) (i * 3) (r .value) (r .len) (r .port) ⌝ }
+    ensures { λ _. ⌜ now (list .exit) ≡ storeThree (now (list .entry)) (i * 3) (r .value) (r .len) (r .port) ⌝ }
 {
     let row = i * 3;
     list[row] = r.value;

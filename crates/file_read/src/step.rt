@@ -8,7 +8,7 @@ ghost use Rattle.bits.specs.Prefix.{precedes};
 ghost use Rattle.file_rules.specs.File.{prefixBytes, lenAt, valueFrom, portFrom, spare, readAt};
 ghost use Rattle.file_rules.specs.Check.{frameFault, contentFault, Entire};
 ghost use Rattle.file_read.specs.Step.{stepAt};
-ghost use Rattle.file_read.specs.Parts.{ByteIs, NumberAt, Standing};
+ghost use Rattle.file_read.specs.Needs.{ByteIs, NumberAt, Standing};
 use file_rules::Spared;
 use file_rules::prefix_bytes;
 use prefix::Prefix;

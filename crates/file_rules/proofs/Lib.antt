@@ -3,8 +3,8 @@ pub mod Bytes
 pub mod InOrder
 pub mod Sound
 pub mod Walk
-pub mod Accepted
-pub mod Written
 pub mod Words
 pub mod Trips
 pub mod Unique
+pub mod Whole
+pub mod WriteRead

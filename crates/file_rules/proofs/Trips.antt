@@ -25,8 +25,8 @@ use Rattle.file_rules.specs.Calls.{checkedThen, listOfRoutes, readFile, 
 use Rattle.file_rules.specs.Theorems.{ReadWritten, WriteRead, EmptyFile, RefusalWritesNothing}
 use Rattle.file_rules.proofs.InOrder.{in-order-same}
 use Rattle.file_rules.proofs.Walk.{check-whole, accepted-whole}
-use Rattle.file_rules.proofs.Accepted.{file-valid, file-same}
-use Rattle.file_rules.proofs.Written.{file-back}
+use Rattle.file_rules.proofs.Whole.{file-valid, file-same}
+use Rattle.file_rules.proofs.WriteRead.{file-back}
 use Rattle.file_rules.proofs.Words.{length-list, count-list, route-in-list, list-same, words-list}
 
 -- the three answers of a call that checks and then writes

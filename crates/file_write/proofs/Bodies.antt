@@ -16,9 +16,9 @@ use Rattle.routes.proofs.First.{accepted-none}
 use Rattle.routes.proofs.Check.{accepted-sized, list-check-sized}
 use Rattle.file_rules.specs.File.{headSize, prefixBytes, sizeFor, inOrder, routeBytes, bodyOf}
 use Rattle.file_rules.proofs.InOrder.{in-order-more, length-in-order-more, length-in-order-mono, length-in-order-le}
-use Rattle.file_rules.proofs.Accepted.{length-route-bytes}
-use Rattle.file_write.specs.Parts.{stored, BodySize, FitsFile}
-use Rattle.file_write.proofs.Stored.{length-stored, stored-none, stored-stored}
+use Rattle.file_rules.proofs.Whole.{length-route-bytes}
+use Rattle.file_write.specs.Needs.{stored, BodySize, FitsFile}
+use Rattle.file_write.proofs.Store.{length-stored, stored-none, stored-stored}
 
 -- what the check says of a list that it accepts
 module _ (w : ℕ) (list : List ℕ) (valid : listCheck w list .number ≡ 0) where

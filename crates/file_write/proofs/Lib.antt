@@ -1,5 +1,5 @@
 -- Laws of the writer.
-pub mod Stored
 pub mod Bodies
-pub mod Writing
 pub mod Unique
+pub mod Store
+pub mod WriteCall

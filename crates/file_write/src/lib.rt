@@ -8,7 +8,7 @@ ghost use Rattle.routes.specs.Check.{listCheck};
 ghost use Rattle.file_rules.specs.Bytes.{digits};
 ghost use Rattle.file_rules.specs.File.{headSize, sizeFor, routeBytes, bodyOf, headOf};
 ghost use Rattle.file_rules.specs.Calls.{writeFile};
-ghost use Rattle.file_write.specs.Parts.{stored, BodySize, FitsFile};
+ghost use Rattle.file_write.specs.Needs.{stored, BodySize, FitsFile};
 use file_rules::HEAD_SIZE;
 use file_rules::VERSION;
 use file_rules::prefix_bytes;

@@ -19,7 +19,7 @@ use Rattle.image_rules.specs.Lookup.{isStride, Strided}
 use Rattle.image_stretch.specs.Count.{nodesCount}
 use Rattle.image_stretch.proofs.Readied.{sizes}
 use Rattle.image_build.specs.declared.Built.{Built}
-use Rattle.image_build.specs.Build.{left, refusedBuild, doneBuild, listed, imageInto, buildImage}
+use Rattle.image_build.specs.Build.{left, refusedBuild, doneBuild, listRoutes, imageInto, buildImage}
 use Rattle.image_build.specs.Needs.{mostNodes, Roomy}
 
 -- a stride is 1, 2 or 4
@@ -49,7 +49,7 @@ module _ (w s : ℕ) (list nodes ports : List ℕ) where
         (ap (λ (x : Built). left x nodes ports) (e ∙ ap (λ (a : Answer). refusedBuild (a .number) (a .place)) is))
 
     module _ (z : checked .number ≡ 0) where
-      accepted : buildImage w s list nodes ports ≡ imageInto s (w / s) (listed w list) nodes ports
+      accepted : buildImage w s list nodes ports ≡ imageInto s (w / s) (listRoutes w list) nodes ports
       unfolding buildImage
       accepted = rw (t, eq-eqb (listCheck w list .number) 0 (sym (ap (λ (a : Answer). a .number) is) ∙ z))
 
@@ -61,10 +61,10 @@ module _ (w s : ℕ) (list nodes ports : List ℕ) where
         abbrev k : ℕ
         k = w / s
 
-        nodes-are : length (imageNodes s k (listed w list)) ≡ count * nodeSize
+        nodes-are : length (imageNodes s k (listRoutes w list)) ≡ count * nodeSize
         nodes-are = sizes w s list (routeCount list) st (accepted-list fits) .1 ∙ ap (λ (m : ℕ). m * nodeSize) (sym counted)
 
-        ports-are : length (imagePorts s k (listed w list)) ≡ count * (slots - 1) + 1
+        ports-are : length (imagePorts s k (listRoutes w list)) ≡ count * (slots - 1) + 1
         ports-are =
             sizes w s list (routeCount list) st (accepted-list fits) .2
             ∙ ap₂ (λ (m n : ℕ). m * (n - 1) + 1) (sym counted) (sym are)
@@ -72,28 +72,28 @@ module _ (w s : ℕ) (list nodes ports : List ℕ) where
         -- 9 for nodes
         pub build-no-nodes : length nodes < count * nodeSize → (b : Built) → b ≡ refusedBuild noRoom 0 → left b nodes ports ≡ buildImage w s list nodes ports
         build-no-nodes h b e =
-            let u : length nodes < length (imageNodes s k (listed w list)) = omega (arith, nodes-are) in
-            sym (accepted ∙ rw (lt-leb (length (imageNodes s k (listed w list))) (length nodes) u) (ap (λ (x : Built). left x nodes ports) (sym e)))
+            let u : length nodes < length (imageNodes s k (listRoutes w list)) = omega (arith, nodes-are) in
+            sym (accepted ∙ rw (lt-leb (length (imageNodes s k (listRoutes w list))) (length nodes) u) (ap (λ (x : Built). left x nodes ports) (sym e)))
 
         -- 9 for ports
         pub build-no-ports : length ports < count * (slots - 1) + 1 → (b : Built) → b ≡ refusedBuild noRoom 0 → left b nodes ports ≡ buildImage w s list nodes ports
         build-no-ports h b e =
-            let u : length ports < length (imagePorts s k (listed w list)) = omega (arith, ports-are) in
+            let u : length ports < length (imagePorts s k (listRoutes w list)) = omega (arith, ports-are) in
             sym (accepted
-            ∙ rw (lt-leb (length (imagePorts s k (listed w list))) (length ports) u, and-false (leb (length (imageNodes s k (listed w list))) (length nodes)))
+            ∙ rw (lt-leb (length (imagePorts s k (listRoutes w list))) (length ports) u, and-false (leb (length (imageNodes s k (listRoutes w list))) (length nodes)))
             (ap (λ (x : Built). left x nodes ports) (sym e)))
 
         pub build-done : count * nodeSize ≤ length nodes → count * (slots - 1) + 1 ≤ length ports
-            → {nodes′ ports′ : List ℕ} → nodes′ ≡ over (imageNodes s k (listed w list)) nodes → ports′ ≡ over (imagePorts s k (listed w list)) ports
+            → {nodes′ ports′ : List ℕ} → nodes′ ≡ over (imageNodes s k (listRoutes w list)) nodes → ports′ ≡ over (imagePorts s k (listRoutes w list)) ports
             → (b : Built) → b ≡ doneBuild count (count * (slots - 1) + 1) → left b nodes′ ports′ ≡ buildImage w s list nodes ports
         build-done h l {nodes′} {ports′} a c b e =
-            let u : length (imageNodes s k (listed w list)) ≤ length nodes = omega (arith, nodes-are) in
-            let v : length (imagePorts s k (listed w list)) ≤ length ports = omega (arith, ports-are) in
-            let m : count ≡ length (imagePaths s k (listed w list)) = counted ∙ sym (sizes w s list (routeCount list) st (accepted-list fits) .0) in
-            let d : b ≡ doneBuild (length (imagePaths s k (listed w list))) (length (imagePorts s k (listed w list)))
+            let u : length (imageNodes s k (listRoutes w list)) ≤ length nodes = omega (arith, nodes-are) in
+            let v : length (imagePorts s k (listRoutes w list)) ≤ length ports = omega (arith, ports-are) in
+            let m : count ≡ length (imagePaths s k (listRoutes w list)) = counted ∙ sym (sizes w s list (routeCount list) st (accepted-list fits) .0) in
+            let d : b ≡ doneBuild (length (imagePaths s k (listRoutes w list))) (length (imagePorts s k (listRoutes w list)))
             = e ∙ ap₂ (λ (x y : ℕ). doneBuild x y) m (sym ports-are) in
             sym (accepted
-            ∙ rw (le-leb (length (imageNodes s k (listed w list))) (length nodes) u, le-leb (length (imagePorts s k (listed w list))) (length ports) v)
+            ∙ rw (le-leb (length (imageNodes s k (listRoutes w list))) (length nodes) u, le-leb (length (imagePorts s k (listRoutes w list))) (length ports) v)
             (sym (λ i. record { built = d i; nodes = a i; ports = c i })))
 
 -- the room, as the code has tested it

@@ -16,15 +16,15 @@ use Rattle.routes.proofs.Check.{accepted-valid}
 use Rattle.image_rules.specs.Image.{imageNodes, imagePorts}
 use Rattle.image_rules.specs.Lookup.{isStride, lookupWords}
 use Rattle.image_rules.proofs.Listed.{lookup-is-list-scan}
-use Rattle.image_build.specs.Build.{listed, buildImage}
+use Rattle.image_build.specs.Build.{listRoutes, buildImage}
 use Rattle.image_build.specs.Theorems.{BuiltIsScan, RefusalWritesNothing}
 
 -- done, the memories hold the image of a list that was accepted; refused, they are as they were
 record Finished (w s : ℕ) (list nodes ports : List ℕ) : Type 0 where
   done : buildImage w s list nodes ports .built .number ≡ 0
   accepted : listCheck w list .number ≡ 0
-  nodesAre : buildImage w s list nodes ports .nodes ≡ over (imageNodes s (w / s) (listed w list)) nodes
-  portsAre : buildImage w s list nodes ports .ports ≡ over (imagePorts s (w / s) (listed w list)) ports
+  nodesAre : buildImage w s list nodes ports .nodes ≡ over (imageNodes s (w / s) (listRoutes w list)) nodes
+  portsAre : buildImage w s list nodes ports .ports ≡ over (imagePorts s (w / s) (listRoutes w list)) ports
 
 record Refused (w s : ℕ) (list nodes ports : List ℕ) : Type 0 where
   wrong : buildImage w s list nodes ports .built .number ≡ 0 → ⊥
@@ -33,10 +33,10 @@ record Refused (w s : ℕ) (list nodes ports : List ℕ) : Type 0 where
 
 module _ (w s : ℕ) (list nodes ports : List ℕ) where
   abbrev nodesFit : Bool
-  nodesFit = leb (length (imageNodes s (w / s) (listed w list))) (length nodes)
+  nodesFit = leb (length (imageNodes s (w / s) (listRoutes w list))) (length nodes)
 
   abbrev portsFit : Bool
-  portsFit = leb (length (imagePorts s (w / s) (listed w list))) (length ports)
+  portsFit = leb (length (imagePorts s (w / s) (listRoutes w list))) (length ports)
 
   finished-or-refused : Finished w s list nodes ports ⊎ Refused w s list nodes ports
   unfolding buildImage

@@ -10,14 +10,14 @@ use Rattle.routes.specs.declared.Route.{Route}
 use Rattle.image_rules.specs.Breadth.{Slot, leaf, nonLeaf}
 use Rattle.image_stretch.specs.declared.Stretch.{Stretch}
 use Rattle.image_stretch.specs.declared.Filled.{Filled}
-use Rattle.image_stretch.specs.Stretches.{stretch, past, lastFrom, ahead, under, slotStretch, goesOn, leafPort, slotIn, addressOf, slotAddress, slotAt}
+use Rattle.image_stretch.specs.Stretches.{stretch, past, lastFrom, standsBefore, under, slotStretch, goesOn, leafPort, slotIn, addressOf, slotAddress, stretchSlot}
 use Rattle.image_stretch.specs.Memory.{filled, filledBy}
 
 -- the order's test, as the code calls it
 pub precedes-found : (v l v′ l′ : ℕ) (p : Prefix) (t c : Bool) → p ≡ prefix v l → t ≡ precedes (p .value) (p .len) v′ l′ → t ≡ c → precedes v l v′ l′ ≡ c
 precedes-found v l v′ l′ p t c e f g = ap (λ (q : Prefix). precedes (q .value) (q .len) v′ l′) (sym e) ∙ sym f ∙ g
 
-pub slot-stretch-is : (w : ℕ) (R : ℕ → Route) (x : Stretch) (v l lo hi best : ℕ) → lo ≡ past (ahead R v l) (x .hi - x .lo) (x .lo)
+pub slot-stretch-is : (w : ℕ) (R : ℕ → Route) (x : Stretch) (v l lo hi best : ℕ) → lo ≡ past (standsBefore R v l) (x .hi - x .lo) (x .lo)
     → hi ≡ past (under w R v l) (x .hi - lo) lo → best ≡ lastFrom w R v (x .best) (x .lo) (lo - x .lo)
     → stretch lo hi l best ≡ slotStretch w R x v l
 unfolding slotStretch
@@ -47,7 +47,7 @@ filled-ends o p st e =
 -- slot j by its prefix
 pub slot-found : (w : ℕ) (R : ℕ → Route) (s : ℕ) (x y : Stretch) (address j : ℕ) (p : Prefix) → address ≡ addressOf w R x
     → p ≡ prefix (slotAddress w address (x .depth + s) j) (x .depth + s) → y ≡ slotStretch w R x (p .value) (p .len)
-    → slotIn R y ≡ slotAt w R s x j
+    → slotIn R y ≡ stretchSlot w R s x j
 slot-found w R s x y address j p a b c =
     ap (slotIn R) (c ∙ ap (λ (q : Prefix). slotStretch w R x (q .value) (q .len)) b)
     ∙ ap (λ (m : ℕ). slotIn R (slotStretch w R x (slotAddress w m (x .depth + s) j) (x .depth + s))) a

@@ -32,8 +32,8 @@ abbrev pub doneBuild : ℕ → ℕ → Built
 doneBuild nodes ports = record { number = 0; place = 0; nodes = nodes; ports = ports }
 
 -- the routes of a list of words
-abbrev pub listed : ℕ → List ℕ → List Route
-listed w list = routesOf w (routeAt list) (routeCount list)
+abbrev pub listRoutes : ℕ → List ℕ → List Route
+listRoutes w list = routesOf w (routeAt list) (routeCount list)
 
 -- "9 for nodes or ports": the image of the routes, if both memories lent have room for it
 abbrev pub imageInto : ℕ → ℕ → List Route → List ℕ → List ℕ → Left
@@ -47,6 +47,6 @@ unfoldable pub buildImage : ℕ → ℕ → List ℕ → List ℕ → List ℕ �
 buildImage w s list nodes ports =
     cond (isStride s)
     (cond (eqb (listCheck w list .number) 0)
-    (imageInto s (w / s) (listed w list) nodes ports)
+    (imageInto s (w / s) (listRoutes w list) nodes ports)
     (left (refusedBuild (listCheck w list .number) (listCheck w list .place)) nodes ports))
     (left (refusedBuild wrongStride 0) nodes ports)

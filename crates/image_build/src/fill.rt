@@ -10,7 +10,7 @@ ghost use Rattle.prefix.specs.Prefixes.{prefix};
 ghost use Rattle.routes.specs.Routes.{routeAt};
 ghost use Rattle.lists.specs.Flat.{flat};
 ghost use Rattle.image_rules.specs.Node.{nodeWords, offset};
-ghost use Rattle.image_rules.specs.Breadth.{childOf, portOf, bitmap, children, leafPorts, levels, treeWords, treePorts};
+ghost use Rattle.image_rules.specs.Breadth.{slotChildren, slotPorts, bitmap, children, leafPorts, levels, treeWords, treePorts};
 ghost use Rattle.image_rules.specs.Image.{imageNodes, imagePorts, routesOf};
 ghost use Rattle.image_stretch.specs.Stretches.{stretch, halfWord, slotIn, addressOf, slotAddress, stretchSlots, rootOf};
 ghost use Rattle.image_stretch.specs.Memory.{pending, pendingAt, used, filled, filledBy, turnNodes, Okay, Ready};
@@ -100,11 +100,11 @@ fn slot_place(address: u32, depth: u32, j: u32) -> Prefix
 // One slot: a leaf's port, or a node still to do.
 fn fill_slot(list: &[u32], y: Stretch, nodes: &mut [u32], ports: &mut [u16], st: Filled) -> Filled
     requires { ⌜ Sound (now list) y × (y .hi < halfWord) × (y .depth ≤ 32) × (st .bitmap < 2 ^ 31)
-        × ((st .nodes + length (childOf (slotIn (routeAt (now list)) y))) * 3 ≤ length (now nodes))
-        × (st .ports + length (portOf (slotIn (routeAt (now list)) y)) ≤ length (now ports)) ⌝ }
+        × ((st .nodes + length (slotChildren (slotIn (routeAt (now list)) y))) * 3 ≤ length (now nodes))
+        × (st .ports + length (slotPorts (slotIn (routeAt (now list)) y)) ≤ length (now ports)) ⌝ }
     ensures { λ r. ⌜ (r ≡ filledBy (slotIn (routeAt (now (list .entry))) y) st)
-        × (now (nodes .exit) ≡ sets (now (nodes .entry)) (st .nodes * 3) (flat pending (childOf (slotIn (routeAt (now (list .entry))) y))))
-        × (now (ports .exit) ≡ sets (now (ports .entry)) (st .ports) (portOf (slotIn (routeAt (now (list .entry))) y))) ⌝ }
+        × (now (nodes .exit) ≡ sets (now (nodes .entry)) (st .nodes * 3) (flat pending (slotChildren (slotIn (routeAt (now (list .entry))) y))))
+        × (now (ports .exit) ≡ sets (now (ports .entry)) (st .ports) (slotPorts (slotIn (routeAt (now (list .entry))) y))) ⌝ }
 {
     if goes_on(list, y) {
         put_stretch(nodes, st.nodes, y);
@@ -134,13 +134,13 @@ fn fill_node(
     at: Used,
 ) -> Filled
     requires { ⌜ Slots stride slots × Okay 32 (now list) stride x
-        × ((at .nodes + length (flat childOf (stretchSlots 32 (routeAt (now list)) stride slots x))) * 3 ≤ length (now nodes))
-        × (at .ports + length (flat portOf (stretchSlots 32 (routeAt (now list)) stride slots x)) ≤ length (now ports)) ⌝ }
+        × ((at .nodes + length (flat slotChildren (stretchSlots 32 (routeAt (now list)) stride slots x))) * 3 ≤ length (now nodes))
+        × (at .ports + length (flat slotPorts (stretchSlots 32 (routeAt (now list)) stride slots x)) ≤ length (now ports)) ⌝ }
     ensures { λ r. ⌜ (r ≡ filled (bitmap (stretchSlots 32 (routeAt (now (list .entry))) stride slots x))
-        (at .nodes + length (flat childOf (stretchSlots 32 (routeAt (now (list .entry))) stride slots x)))
-        (at .ports + length (flat portOf (stretchSlots 32 (routeAt (now (list .entry))) stride slots x))))
-        × (now (nodes .exit) ≡ sets (now (nodes .entry)) (at .nodes * 3) (flat pending (flat childOf (stretchSlots 32 (routeAt (now (list .entry))) stride slots x))))
-        × (now (ports .exit) ≡ sets (now (ports .entry)) (at .ports) (flat portOf (stretchSlots 32 (routeAt (now (list .entry))) stride slots x))) ⌝ }
+        (at .nodes + length (flat slotChildren (stretchSlots 32 (routeAt (now (list .entry))) stride slots x)))
+        (at .ports + length (flat slotPorts (stretchSlots 32 (routeAt (now (list .entry))) stride slots x))))
+        × (now (nodes .exit) ≡ sets (now (nodes .entry)) (at .nodes * 3) (flat pending (flat slotChildren (stretchSlots 32 (routeAt (now (list .entry))) stride slots x))))
+        × (now (ports .exit) ≡ sets (now (ports .entry)) (at .ports) (flat slotPorts (stretchSlots 32 (routeAt (now (list .entry))) stride slots x))) ⌝ }
 {
     let address = address_of(list, x);
     let depth = x.depth + stride;

@@ -5,7 +5,7 @@ ghost use Prim.Native.Nat.{_+_, _-_, _*_, _<_, _≤_};
 ghost use lib.ListN.{length};
 ghost use Rattle.bits.specs.Prefix.{matches};
 ghost use Rattle.routes.specs.Routes.{routeAt};
-ghost use Rattle.image_stretch.specs.Stretches.{past, halfWord, carried, lastFrom, ahead, under, slotStretch, goesOn, leafPort};
+ghost use Rattle.image_stretch.specs.Stretches.{past, halfWord, carried, lastFrom, standsBefore, under, slotStretch, goesOn, leafPort};
 ghost use Rattle.image_build.specs.Needs.{Sound};
 use image_stretch::Stretch;
 use prefix::Prefix;
@@ -13,7 +13,7 @@ use prefix::Prefix;
 // The first route of lo..hi that does not stand before the prefix; hi if all do.
 fn first_from(list: &[u32], place: Prefix, lo: usize, hi: usize) -> usize
     requires { ⌜ (lo ≤ hi) × (hi * 3 ≤ length (now list)) ⌝ }
-    ensures { λ r. ⌜ (r ≡ past (ahead (routeAt (now (list .entry))) (place .value) (place .len)) (hi - lo) lo) × (lo ≤ r) × (r ≤ hi) ⌝ }
+    ensures { λ r. ⌜ (r ≡ past (standsBefore (routeAt (now (list .entry))) (place .value) (place .len)) (hi - lo) lo) × (lo ≤ r) × (r ≤ hi) ⌝ }
 {
     let mut i = lo;
     while i < hi {

@@ -12,7 +12,7 @@ use Rattle.bits.specs.Bitmap.{slotBit, onesBefore}
 use Rattle.bits.proofs.Bitmap.{ones-before-le}
 use Rattle.routes.specs.Refusals.{notInOrder}
 use Rattle.image_rules.specs.Node.{nodeCount, isNode, bitmapOf, offsetOf, baseOf}
-use Rattle.image_rules.specs.Lookup.{refusedAt, leafAt, slotAt, childAt, walk, lookupWords}
+use Rattle.image_rules.specs.Lookup.{refusedAt, leafAt, addressSlot, childAt, walk, lookupWords}
 use Rattle.image_rules.proofs.Walk.{walk-leaf, walk-child}
 use Rattle.image_lookup.specs.Found.{Stride, Lent}
 
@@ -58,13 +58,13 @@ module _ (s n : ℕ) (is : n ≡ 2 ^ s) (nodes ports : List ℕ) (addr a reads :
       small : bitmapOf nodes a < 2 ^ (2 ^ s)
       small = rw (is, own) at (shr-zero→lt n b z)
 
-      slot : j ≡ slotAt s addr (left - 1)
+      slot : j ≡ addressSlot s addr (left - 1)
       slot = here ∙ ap (λ (m : ℕ). addr / 2 ^ (s * (left - 1)) % m) is
 
-      bits : eqb (slotBit (2 ^ s) (bitmapOf nodes a) (slotAt s addr (left - 1))) 1 ≡ one
+      bits : eqb (slotBit (2 ^ s) (bitmapOf nodes a) (addressSlot s addr (left - 1))) 1 ≡ one
       bits = sym (rw (slot, is, own) at bit)
 
-      ones-is : onesBefore (2 ^ s) (bitmapOf nodes a) (slotAt s addr (left - 1)) ≡ ones
+      ones-is : onesBefore (2 ^ s) (bitmapOf nodes a) (addressSlot s addr (left - 1)) ≡ ones
       ones-is = sym (rw (slot, is, own) at count)
 
       levels : (P : ℕ → Type 0) → P (suc (left - 1)) → P left
@@ -73,7 +73,7 @@ module _ (s n : ℕ) (is : n ≡ 2 ^ s) (nodes ports : List ℕ) (addr a reads :
       pub turn-leaf : one ≡ true → (l : ℕ) → l ≡ baseOf nodes a + ones
           → walk s nodes ports addr left a reads ≡ leafAt ports l (reads + 1)
       turn-leaf t l e =
-          let o : slotBit (2 ^ s) (bitmapOf nodes a) (slotAt s addr (left - 1)) ≡ 1 = eqb-true _ 1 (bits ∙ t) in
+          let o : slotBit (2 ^ s) (bitmapOf nodes a) (addressSlot s addr (left - 1)) ≡ 1 = eqb-true _ 1 (bits ∙ t) in
           levels (λ k. walk s nodes ports addr k a reads ≡ leafAt ports l (reads + 1))
           (walk-leaf s nodes ports addr (left - 1) a reads node small o
           ∙ ap (λ (m : ℕ). leafAt ports m (reads + 1)) (ap (λ (m : ℕ). baseOf nodes a + m) ones-is ∙ sym e))
@@ -81,9 +81,9 @@ module _ (s n : ℕ) (is : n ≡ 2 ^ s) (nodes ports : List ℕ) (addr a reads :
       pub turn-child : one ≡ false → (next : ℕ) → next ≡ a + offsetOf nodes a + (j - ones)
           → walk s nodes ports addr left a reads ≡ walk s nodes ports addr (left - 1) next (reads + 1)
       turn-child t next e =
-          let f : slotBit (2 ^ s) (bitmapOf nodes a) (slotAt s addr (left - 1)) ≡ 1 → ⊥ = eqb-false _ 1 (bits ∙ t) in
-          let o : slotBit (2 ^ s) (bitmapOf nodes a) (slotAt s addr (left - 1)) ≡ 0 = omega arith in
-          let c : childAt (2 ^ s) nodes a (slotAt s addr (left - 1)) ≡ next = omega (arith, ones-is, slot, e) in
+          let f : slotBit (2 ^ s) (bitmapOf nodes a) (addressSlot s addr (left - 1)) ≡ 1 → ⊥ = eqb-false _ 1 (bits ∙ t) in
+          let o : slotBit (2 ^ s) (bitmapOf nodes a) (addressSlot s addr (left - 1)) ≡ 0 = omega arith in
+          let c : childAt (2 ^ s) nodes a (addressSlot s addr (left - 1)) ≡ next = omega (arith, ones-is, slot, e) in
           levels (λ k. walk s nodes ports addr k a reads ≡ walk s nodes ports addr (left - 1) next (reads + 1))
           (walk-child s nodes ports addr (left - 1) a reads node small o
           ∙ ap (λ (m : ℕ). walk s nodes ports addr (left - 1) m (reads + 1)) c)

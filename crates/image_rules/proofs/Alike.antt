@@ -6,7 +6,7 @@ use Prim.Native.Nat.{ℕ, zero, suc, _+_, _*_, _^_}
 use lib.ListN.{length}
 use Rattle.lists.specs.Flat.{flat}
 use Rattle.image_rules.specs.Node.{nodeWords, offset}
-use Rattle.image_rules.specs.Breadth.{Slot, leaf, nonLeaf, portOf, childOf, leafBit, bitmap, children, leafPorts, levels, words, treePorts}
+use Rattle.image_rules.specs.Breadth.{Slot, leaf, nonLeaf, slotPorts, slotChildren, leafBit, bitmap, children, leafPorts, levels, words, treePorts}
 
 -- element by element
 module _ {A B : Type 0} (R : A → B → Type 0) where
@@ -36,13 +36,13 @@ Alike R (nonLeaf x) (leaf q) = ⊥
 Alike R (nonLeaf x) (nonLeaf y) = R x y
 
 module _ {X Y : Type 0} (R : X → Y → Type 0) where
-  child-alike : (o : Slot X) (u : Slot Y) → Alike R o u → Each R (childOf o) (childOf u)
+  child-alike : (o : Slot X) (u : Slot Y) → Alike R o u → Each R (slotChildren o) (slotChildren u)
   child-alike (leaf p) (leaf q) h = tt
   child-alike (leaf p) (nonLeaf y) h = absurd h
   child-alike (nonLeaf x) (leaf q) h = absurd h
   child-alike (nonLeaf x) (nonLeaf y) h = (h, tt)
 
-  port-alike : (o : Slot X) (u : Slot Y) → Alike R o u → portOf o ≡ portOf u
+  port-alike : (o : Slot X) (u : Slot Y) → Alike R o u → slotPorts o ≡ slotPorts u
   port-alike (leaf p) (leaf q) h = ap (λ (n : ℕ). n ∷ []) h
   port-alike (leaf p) (nonLeaf y) h = absurd h
   port-alike (nonLeaf x) (leaf q) h = absurd h
@@ -54,14 +54,14 @@ module _ {X Y : Type 0} (R : X → Y → Type 0) where
   leaf-bit-alike (nonLeaf x) (leaf q) h = absurd h
   leaf-bit-alike (nonLeaf x) (nonLeaf y) h = refl
 
-  children-alike : (os : List (Slot X)) (us : List (Slot Y)) → Each (Alike R) os us → Each R (flat childOf os) (flat childOf us)
+  children-alike : (os : List (Slot X)) (us : List (Slot Y)) → Each (Alike R) os us → Each R (flat slotChildren os) (flat slotChildren us)
   children-alike [] [] h = tt
   children-alike [] (u ∷ us) h = absurd h
   children-alike (o ∷ os) [] h = absurd h
   children-alike (o ∷ os) (u ∷ us) h =
-      each-append R (childOf o) (flat childOf os) (childOf u) (flat childOf us) (child-alike o u (h .0)) (children-alike os us (h .1))
+      each-append R (slotChildren o) (flat slotChildren os) (slotChildren u) (flat slotChildren us) (child-alike o u (h .0)) (children-alike os us (h .1))
 
-  ports-alike : (os : List (Slot X)) (us : List (Slot Y)) → Each (Alike R) os us → flat portOf os ≡ flat portOf us
+  ports-alike : (os : List (Slot X)) (us : List (Slot Y)) → Each (Alike R) os us → flat slotPorts os ≡ flat slotPorts us
   ports-alike [] [] h = refl
   ports-alike [] (u ∷ us) h = absurd h
   ports-alike (o ∷ os) [] h = absurd h

@@ -14,7 +14,7 @@ use Rattle.trie.specs.Routes.{Route}
 use Rattle.trie.specs.Scan.{scanList}
 use Rattle.routes.specs.Refusals.{lastPort}
 use Rattle.image_rules.specs.Image.{someLonger, slotBits, imagePaths, imageNodes, imagePorts, passed}
-use Rattle.image_rules.specs.Lookup.{answered, slotAt, leafOf, walk}
+use Rattle.image_rules.specs.Lookup.{answered, addressSlot, leafOf, walk}
 use Rattle.bits.proofs.Digits.{bits-level, take-level, drop-level}
 use Rattle.image_rules.proofs.Longer.{scan-more, scan-le}
 use Rattle.image_rules.proofs.Walk.{leaf-at-is, walk-leaf, walk-child}
@@ -36,7 +36,7 @@ module _ (w s K : ℕ) (rs : List Route) (more extra : List ℕ) (addr : ℕ)
     at = getD (imagePaths s K rs) i []
 
     abbrev j : ℕ
-    j = slotAt s addr k
+    j = addressSlot s addr k
 
     abbrev slot : Bits
     slot = slotBits s at j

@@ -6,7 +6,7 @@ use Prim.Native.Nat.{ℕ, zero, suc, _+_, _-_, _≤_, _<_}
 use native.Mathlib.Omega.{arith}
 use lib.ListN.{length, length-append}
 use Rattle.lists.specs.Flat.{flat, upto}
-use Rattle.image_rules.specs.Breadth.{Slot, leaf, nonLeaf, childOf, children, levels}
+use Rattle.image_rules.specs.Breadth.{Slot, leaf, nonLeaf, slotChildren, children, levels}
 use Rattle.lists.proofs.Flat.{flat-append, upto-append, All, all-append}
 use Rattle.lists.proofs.Tests.{lt-or-le}
 
@@ -18,7 +18,7 @@ Below P k (nonLeaf y) = P k y
 -- P k x says that the tree below x has at most k levels
 module _ {X : Type 0} (slots : X → List (Slot X)) (P : ℕ → X → Type 0)
     (none : (x : X) → P zero x → ⊥) (below : (k : ℕ) (x : X) → P (suc k) x → All (Below P k) (slots x)) where
-  children-all : (k : ℕ) (os : List (Slot X)) → All (Below P k) os → All (P k) (flat childOf os)
+  children-all : (k : ℕ) (os : List (Slot X)) → All (Below P k) os → All (P k) (flat slotChildren os)
   children-all k [] h = tt
   children-all k (leaf p ∷ os) h = children-all k os (h .1)
   children-all k (nonLeaf y ∷ os) h = (h .0, children-all k os (h .1))

@@ -10,7 +10,7 @@ use borrow.Author.Tests.{lt-ltb, le-leb}
 use Rattle.bits.specs.Bitmap.{slotBit}
 use Rattle.routes.specs.Refusals.{notInOrder, wrongStride, lastPort}
 use Rattle.image_rules.specs.Node.{isNode, bitmapOf}
-use Rattle.image_rules.specs.Lookup.{Looked, answered, refusedAt, slotAt, leafOf, childAt, leafAt, walk, isStride, lookupWords}
+use Rattle.image_rules.specs.Lookup.{Looked, answered, refusedAt, addressSlot, leafOf, childAt, leafAt, walk, isStride, lookupWords}
 use Rattle.image_rules.specs.Theorems.{ReadsLe}
 
 pub leaf-at-is : (ports : List ℕ) (l p reads : ℕ) → l < length ports → getD ports l 0 ≡ p → p ≤ lastPort
@@ -20,13 +20,13 @@ leaf-at-is ports l p reads h e k = rw (lt-ltb l (length ports) h, e, le-leb p la
 -- a node whose bitmap is in order
 module _ (s : ℕ) (nodes ports : List ℕ) (addr k a reads : ℕ)
     (node : isNode nodes a ≡ true) (small : bitmapOf nodes a < 2 ^ (2 ^ s)) where
-  pub walk-leaf : slotBit (2 ^ s) (bitmapOf nodes a) (slotAt s addr k) ≡ 1
-      → walk s nodes ports addr (suc k) a reads ≡ leafAt ports (leafOf (2 ^ s) nodes a (slotAt s addr k)) (reads + 1)
+  pub walk-leaf : slotBit (2 ^ s) (bitmapOf nodes a) (addressSlot s addr k) ≡ 1
+      → walk s nodes ports addr (suc k) a reads ≡ leafAt ports (leafOf (2 ^ s) nodes a (addressSlot s addr k)) (reads + 1)
   unfolding walk
   walk-leaf e = rw (node, lt-ltb (bitmapOf nodes a) (2 ^ (2 ^ s)) small, e)
 
-  pub walk-child : slotBit (2 ^ s) (bitmapOf nodes a) (slotAt s addr k) ≡ 0
-      → walk s nodes ports addr (suc k) a reads ≡ walk s nodes ports addr k (childAt (2 ^ s) nodes a (slotAt s addr k)) (reads + 1)
+  pub walk-child : slotBit (2 ^ s) (bitmapOf nodes a) (addressSlot s addr k) ≡ 0
+      → walk s nodes ports addr (suc k) a reads ≡ walk s nodes ports addr k (childAt (2 ^ s) nodes a (addressSlot s addr k)) (reads + 1)
   unfolding walk
   walk-child e = rw (node, lt-ltb (bitmapOf nodes a) (2 ^ (2 ^ s)) small, e)
 
@@ -53,11 +53,11 @@ unfolding walk
 reads-walk s nodes ports addr zero a reads = omega arith
 reads-walk s nodes ports addr (suc k) a reads =
     reads-turn (isNode nodes a) (ltb (bitmapOf nodes a) (2 ^ (2 ^ s)))
-    (eqb (slotBit (2 ^ s) (bitmapOf nodes a) (slotAt s addr k)) 1)
-    (leafAt ports (leafOf (2 ^ s) nodes a (slotAt s addr k)) (reads + 1))
-    (walk s nodes ports addr k (childAt (2 ^ s) nodes a (slotAt s addr k)) (reads + 1)) reads k
-    (reads-leaf ports (leafOf (2 ^ s) nodes a (slotAt s addr k)) (reads + 1))
-    (reads-walk s nodes ports addr k (childAt (2 ^ s) nodes a (slotAt s addr k)) (reads + 1))
+    (eqb (slotBit (2 ^ s) (bitmapOf nodes a) (addressSlot s addr k)) 1)
+    (leafAt ports (leafOf (2 ^ s) nodes a (addressSlot s addr k)) (reads + 1))
+    (walk s nodes ports addr k (childAt (2 ^ s) nodes a (addressSlot s addr k)) (reads + 1)) reads k
+    (reads-leaf ports (leafOf (2 ^ s) nodes a (addressSlot s addr k)) (reads + 1))
+    (reads-walk s nodes ports addr k (childAt (2 ^ s) nodes a (addressSlot s addr k)) (reads + 1))
 
 pub reads-le : ReadsLe
 unfolding lookupWords

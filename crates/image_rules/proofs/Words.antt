@@ -11,7 +11,7 @@ use borrow.Author.Tests.{lt-ltb, le-leb, ne-eqb}
 use Rattle.bits.specs.Bitmap.{slotBit, onesBefore, zerosBefore}
 use Rattle.lists.specs.Flat.{flat, upto}
 use Rattle.image_rules.specs.Node.{nodeSize, offset, nodeCount, isNode, bitmapOf, offsetOf, baseOf}
-use Rattle.image_rules.specs.Breadth.{Slot, leaf, nonLeaf, portOf, childOf, leafBit, bitmap, children, leafPorts, words, treeWords, treePorts}
+use Rattle.image_rules.specs.Breadth.{Slot, leaf, nonLeaf, slotPorts, slotChildren, leafBit, bitmap, children, leafPorts, words, treeWords, treePorts}
 use Rattle.image_rules.specs.Lookup.{leafOf, childAt}
 use Rattle.lists.proofs.Flat.{flat-at, flat-lt}
 use Rattle.image_rules.proofs.Counts.{bitmap-lt, ones-before-bitmap, zeros-before-bitmap, slot-bit-bitmap}
@@ -115,25 +115,25 @@ module _ {X : Type 0} (slots : X → List (Slot X)) (xs : List X) (root : X) (mo
       pub slot-bit-is : slotBit n (bitmapOf nodesLent (suc i)) j ≡ leafBit slotHeld
       slot-bit-is = rw bitmap-is (rw len at (slot-bit-bitmap (slots (nodeAt i)) j (leaf 0) in-slots))
 
-      ones-is : onesBefore n (bitmapOf nodesLent (suc i)) j ≡ upto portOf (slots (nodeAt i)) j
+      ones-is : onesBefore n (bitmapOf nodesLent (suc i)) j ≡ upto slotPorts (slots (nodeAt i)) j
       ones-is = rw bitmap-is (rw len at (ones-before-bitmap (slots (nodeAt i)) j (omega (arith, in-slots))))
 
-      zeros-is : zerosBefore n (bitmapOf nodesLent (suc i)) j ≡ upto childOf (slots (nodeAt i)) j
+      zeros-is : zerosBefore n (bitmapOf nodesLent (suc i)) j ≡ upto slotChildren (slots (nodeAt i)) j
       zeros-is = rw bitmap-is (rw len at (zeros-before-bitmap (slots (nodeAt i)) j (omega (arith, in-slots))))
 
       -- a leaf: its number is that of its port
       module _ (p : ℕ) (e : slotHeld ≡ leaf p) where
-        one-port : 0 < length (portOf slotHeld)
+        one-port : 0 < length (slotPorts slotHeld)
         one-port = rw e (omega arith)
 
-        leaf-lt : upto portOf (slots (nodeAt i)) j < length (leafPorts slots (nodeAt i))
-        leaf-lt = omega (arith, flat-lt portOf (slots (nodeAt i)) j 0 (leaf 0) in-slots one-port)
+        leaf-lt : upto slotPorts (slots (nodeAt i)) j < length (leafPorts slots (nodeAt i))
+        leaf-lt = omega (arith, flat-lt slotPorts (slots (nodeAt i)) j 0 (leaf 0) in-slots one-port)
 
-        leaf-of-is : leafOf n nodesLent (suc i) j ≡ upto (leafPorts slots) xs i + upto portOf (slots (nodeAt i)) j
+        leaf-of-is : leafOf n nodesLent (suc i) j ≡ upto (leafPorts slots) xs i + upto slotPorts (slots (nodeAt i)) j
         leaf-of-is = omega (arith, base-is, ones-is)
 
         leaf-stored : leafOf n nodesLent (suc i) j < length (treePorts slots xs)
-        leaf-stored = omega (arith, leaf-of-is, flat-lt (leafPorts slots) xs i (upto portOf (slots (nodeAt i)) j) root h leaf-lt)
+        leaf-stored = omega (arith, leaf-of-is, flat-lt (leafPorts slots) xs i (upto slotPorts (slots (nodeAt i)) j) root h leaf-lt)
 
         pub leaf-lent : leafOf n nodesLent (suc i) j < length portsLent
         leaf-lent = omega (arith, leaf-stored, length-append (treePorts slots xs) extra)
@@ -142,22 +142,22 @@ module _ {X : Type 0} (slots : X → List (Slot X)) (xs : List X) (root : X) (mo
         port-is =
             List·getD-append (treePorts slots xs) extra 0 (leafOf n nodesLent (suc i) j) leaf-stored
             ∙ ap (λ (z : ℕ). getD (treePorts slots xs) z 0) leaf-of-is
-            ∙ flat-at (leafPorts slots) xs i (upto portOf (slots (nodeAt i)) j) root 0 h leaf-lt
-            ∙ ap (λ (z : ℕ). getD (leafPorts slots (nodeAt i)) z 0) (sym (add-zero (upto portOf (slots (nodeAt i)) j)))
-            ∙ flat-at portOf (slots (nodeAt i)) j 0 (leaf 0) 0 in-slots one-port
-            ∙ ap (λ (o : Slot X). getD (portOf o) 0 0) e
+            ∙ flat-at (leafPorts slots) xs i (upto slotPorts (slots (nodeAt i)) j) root 0 h leaf-lt
+            ∙ ap (λ (z : ℕ). getD (leafPorts slots (nodeAt i)) z 0) (sym (add-zero (upto slotPorts (slots (nodeAt i)) j)))
+            ∙ flat-at slotPorts (slots (nodeAt i)) j 0 (leaf 0) 0 in-slots one-port
+            ∙ ap (λ (o : Slot X). getD (slotPorts o) 0 0) e
 
       -- a non-leaf: its number is that of its node, by the numbering law
       module _ (y : X) (e : slotHeld ≡ nonLeaf y) (is : xs ≡ root ∷ flat (children slots) xs)
           (before : i < 1 + upto (children slots) xs i) where
-        one-child : 0 < length (childOf slotHeld)
+        one-child : 0 < length (slotChildren slotHeld)
         one-child = rw e (omega arith)
 
-        child-lt : upto childOf (slots (nodeAt i)) j < length (children slots (nodeAt i))
-        child-lt = omega (arith, flat-lt childOf (slots (nodeAt i)) j 0 (leaf 0) in-slots one-child)
+        child-lt : upto slotChildren (slots (nodeAt i)) j < length (children slots (nodeAt i))
+        child-lt = omega (arith, flat-lt slotChildren (slots (nodeAt i)) j 0 (leaf 0) in-slots one-child)
 
         abbrev child : ℕ
-        child = suc (upto (children slots) xs i + upto childOf (slots (nodeAt i)) j)
+        child = suc (upto (children slots) xs i + upto slotChildren (slots (nodeAt i)) j)
 
         child-at-is : childAt n nodesLent (suc i) j ≡ suc child
         child-at-is =
@@ -168,15 +168,15 @@ module _ {X : Type 0} (slots : X → List (Slot X)) (xs : List X) (root : X) (mo
         child-is : nodeAt child ≡ y
         child-is =
             ap (λ (l : List X). getD l child root) is
-            ∙ flat-at (children slots) xs i (upto childOf (slots (nodeAt i)) j) root root h child-lt
-            ∙ ap (λ (z : ℕ). getD (children slots (nodeAt i)) z root) (sym (add-zero (upto childOf (slots (nodeAt i)) j)))
-            ∙ flat-at childOf (slots (nodeAt i)) j 0 (leaf 0) root in-slots one-child
-            ∙ ap (λ (o : Slot X). getD (childOf o) 0 root) e
+            ∙ flat-at (children slots) xs i (upto slotChildren (slots (nodeAt i)) j) root root h child-lt
+            ∙ ap (λ (z : ℕ). getD (children slots (nodeAt i)) z root) (sym (add-zero (upto slotChildren (slots (nodeAt i)) j)))
+            ∙ flat-at slotChildren (slots (nodeAt i)) j 0 (leaf 0) root in-slots one-child
+            ∙ ap (λ (o : Slot X). getD (slotChildren o) 0 root) e
 
         pub child-numbers : Numbers xs root (childAt n nodesLent (suc i) j) y
         child-numbers = record {
           at = child;
           number = child-at-is;
-          stored = omega (arith, ap length is, flat-lt (children slots) xs i (upto childOf (slots (nodeAt i)) j) root h child-lt);
+          stored = omega (arith, ap length is, flat-lt (children slots) xs i (upto slotChildren (slots (nodeAt i)) j) root h child-lt);
           is = child-is;
         }

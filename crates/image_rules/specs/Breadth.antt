@@ -12,13 +12,13 @@ pub data Slot (X : Type 0) : Type 0 where
   nonLeaf : X → Slot X
 
 module _ {X : Type 0} where
-  abbrev pub portOf : Slot X → List ℕ
-  portOf (leaf p) = p ∷ []
-  portOf (nonLeaf x) = []
+  abbrev pub slotPorts : Slot X → List ℕ
+  slotPorts (leaf p) = p ∷ []
+  slotPorts (nonLeaf x) = []
 
-  abbrev pub childOf : Slot X → List X
-  childOf (leaf p) = []
-  childOf (nonLeaf x) = x ∷ []
+  abbrev pub slotChildren : Slot X → List X
+  slotChildren (leaf p) = []
+  slotChildren (nonLeaf x) = x ∷ []
 
   -- "1 means leaf"
   abbrev pub leafBit : Slot X → ℕ
@@ -32,10 +32,10 @@ module _ {X : Type 0} where
 
   -- a node's non-leaf children, and its leaves' ports, left to right
   abbrev pub children : (X → List (Slot X)) → X → List X
-  children slots x = flat childOf (slots x)
+  children slots x = flat slotChildren (slots x)
 
   abbrev pub leafPorts : (X → List (Slot X)) → X → List ℕ
-  leafPorts slots x = flat portOf (slots x)
+  leafPorts slots x = flat slotPorts (slots x)
 
   -- "breadth first, left to right": a level, then its children's; k levels in all
   abbrev pub levels : (X → List (Slot X)) → ℕ → List X → List X

@@ -25,8 +25,8 @@ abbrev pub refusedAt : ℕ → ℕ → Looked
 refusedAt number reads = record { number = number; port = 0; reads = reads }
 
 -- the slot of the address where k levels are left below it
-abbrev pub slotAt : ℕ → ℕ → ℕ → ℕ
-slotAt s addr k = addr / 2 ^ (s * k) % 2 ^ s
+abbrev pub addressSlot : ℕ → ℕ → ℕ → ℕ
+addressSlot s addr k = addr / 2 ^ (s * k) % 2 ^ s
 
 -- "on a leaf, the port at leaf base plus the number of ones in the slots before j"
 abbrev pub leafOf : ℕ → List ℕ → ℕ → ℕ → ℕ
@@ -50,9 +50,9 @@ walk s nodes ports addr zero a reads = refusedAt notInOrder reads
 walk s nodes ports addr (suc k) a reads =
     cond (isNode nodes a)
     (cond (ltb (bitmapOf nodes a) (2 ^ (2 ^ s)))
-    (cond (eqb (slotBit (2 ^ s) (bitmapOf nodes a) (slotAt s addr k)) 1)
-    (leafAt ports (leafOf (2 ^ s) nodes a (slotAt s addr k)) (reads + 1))
-    (walk s nodes ports addr k (childAt (2 ^ s) nodes a (slotAt s addr k)) (reads + 1)))
+    (cond (eqb (slotBit (2 ^ s) (bitmapOf nodes a) (addressSlot s addr k)) 1)
+    (leafAt ports (leafOf (2 ^ s) nodes a (addressSlot s addr k)) (reads + 1))
+    (walk s nodes ports addr k (childAt (2 ^ s) nodes a (addressSlot s addr k)) (reads + 1)))
     (refusedAt notInOrder (reads + 1)))
     (refusedAt notInOrder reads)
 

@@ -18,13 +18,13 @@ use Rattle.routes.specs.Routes.{ValidList}
 use Rattle.lists.specs.Numbered.{listOf}
 use Rattle.routes.specs.declared.Route.{Route}
 use Rattle.lists.specs.Flat.{flat}
-use Rattle.image_rules.specs.Breadth.{Slot, childOf, children, levels}
+use Rattle.image_rules.specs.Breadth.{Slot, slotChildren, children, levels}
 use Rattle.image_rules.specs.Lookup.{Strided}
 use Rattle.lists.proofs.Flat.{All}
 use Rattle.image_rules.proofs.Numbering.{level-all}
 use Rattle.image_rules.proofs.Image.{levels-pos}
 use Rattle.image_stretch.specs.declared.Stretch.{Stretch}
-use Rattle.image_stretch.specs.Stretches.{goesOn, slotStretch, slotAt, stretchSlots, rootOf, stretches}
+use Rattle.image_stretch.specs.Stretches.{goesOn, slotStretch, stretchSlot, stretchSlots, rootOf, stretches}
 use Rattle.image_stretch.specs.Count.{nodeAt, nodesAt, sumOf, nodesCount}
 use Rattle.image_stretch.specs.Theorems.{CountIs}
 use Rattle.image_stretch.proofs.Places.{Place}
@@ -204,26 +204,26 @@ module _ (w s : ℕ) (R : ℕ → Route) (n : ℕ) where
 
       -- slot j's stretch counts what the tree below it has
       slot-sum : (m : ℕ) → k ≡ suc m → (j : ℕ) (l : j < 2 ^ s)
-          → sumOf count (z j l .hi - z j l .lo) (z j l .lo) ≡ total (size m) (childOf (slotAt w R s x j))
+          → sumOf count (z j l .hi - z j l .lo) (z j l .lo) ≡ total (size m) (slotChildren (stretchSlot w R s x j))
       unfolding total size
       slot-sum m e j l = by (goesOn R (z j l)) refl
         where
           by : (b : Bool) → goesOn R (z j l) ≡ b
-              → sumOf count (z j l .hi - z j l .lo) (z j l .lo) ≡ total (size m) (childOf (slotAt w R s x j))
+              → sumOf count (z j l .hi - z j l .lo) (z j l .lo) ≡ total (size m) (slotChildren (stretchSlot w R s x j))
           by true g =
               let b = both (ltb (z j l .lo) (z j l .hi)) (ltb (z j l .depth) (R (z j l .hi - 1) .len)) g in
               let o = one-node (z j l) (t .bitsAt * 2 ^ s + j) (p j l) (ltb-true (z j l .lo) (z j l .hi) (b .0)) (ltb-true (z j l .depth) (R (z j l .hi - 1) .len) (b .1)) in
               ap₂ (λ (a d : ℕ). sumOf (nodesAt w R n s a d) (z j l .hi - z j l .lo) (z j l .lo)) e (sym (in-x j l .2))
               ∙ nodes-suc m (z j l .depth) (z j l .hi - z j l .lo) (z j l .lo)
               ∙ ap (λ (a : ℕ). a + sumOf (nodesAt w R n s m (z j l .depth + s)) (z j l .hi - z j l .lo) (z j l .lo)) o
-              ∙ sym (ap (λ (o : Slot Stretch). total (size m) (childOf o)) (slot-on w s R n ok k x t j l g)
+              ∙ sym (ap (λ (o : Slot Stretch). total (size m) (slotChildren o)) (slot-on w s R n ok k x t j l g)
               ∙ add-zero (size m (z j l)))
           by false g =
               sum-none count (z j l .hi - z j l .lo) (z j l .lo) (λ i a b. leaf-none j l g i a (omega arith))
-              ∙ sym (ap (λ (o : Slot Stretch). total (size m) (childOf o)) (slot-leaf w s R n ok k x t j l g))
+              ∙ sym (ap (λ (o : Slot Stretch). total (size m) (slotChildren o)) (slot-leaf w s R n ok k x t j l g))
 
       slots-sum : (m : ℕ) → k ≡ suc m → (a j c : ℕ) → j + a ≡ 2 ^ s → Split j c
-          → total (size m) (flat childOf (listOf (slotAt w R s x) a j)) ≡ sumOf count (x .hi - c) c
+          → total (size m) (flat slotChildren (listOf (stretchSlot w R s x) a j)) ≡ sumOf count (x .hi - c) c
       unfolding listOf total sumOf
       slots-sum m e zero j c h q =
           let z : startAt j ≡ start w (x .depth) (t .bitsAt) + span w (x .depth) = whole in
@@ -247,7 +247,7 @@ module _ (w s : ℕ) (R : ℕ → Route) (n : ℕ) where
               ∙ suc-mul (t .bitsAt) (span w (x .depth))
       slots-sum m e (suc a) j c h q =
           let l : j < 2 ^ s = omega arith in
-          total-append (size m) (childOf (slotAt w R s x j)) (flat childOf (listOf (slotAt w R s x) a (j + 1)))
+          total-append (size m) (slotChildren (stretchSlot w R s x j)) (flat slotChildren (listOf (stretchSlot w R s x) a (j + 1)))
           ∙ ap₂ (λ (u v : ℕ). u + v) (sym (slot-sum m e j l)) (slots-sum m e a (j + 1) (z j l .hi) (omega arith) (split-next j l))
           ∙ sym (sum-split count c (z j l .lo) (x .hi) (gap-le j l c q) (omega (arith, p j l .rows, in-x j l .1))
           ∙ ap₂ (λ (u v : ℕ). u + v)

@@ -11,7 +11,7 @@ use lib.Seq.{sets, length-sets}
 use Rattle.lists.specs.Numbered.{listOf}
 use Rattle.lists.specs.Flat.{flat}
 use Rattle.image_rules.specs.Node.{nodeSize}
-use Rattle.image_rules.specs.Breadth.{Slot, leaf, nonLeaf, childOf, portOf, leafBit, bitmap}
+use Rattle.image_rules.specs.Breadth.{Slot, leaf, nonLeaf, slotChildren, slotPorts, leafBit, bitmap}
 use Rattle.lists.proofs.Flat.{flat-append}
 use Rattle.image_stretch.specs.declared.Stretch.{Stretch}
 use Rattle.image_stretch.specs.declared.Filled.{Filled}
@@ -40,29 +40,29 @@ slots-none f (suc k) j h = absurd (omega arith)
 
 -- What is still to be done at the slots `rest`, with the memory and the counts as they are, is what is to be done in all.
 pub record Same (rest : List (Slot Stretch)) (nodes ports : List ℕ) (st : Filled) (all : List (Slot Stretch)) (nodes₀ ports₀ : List ℕ) (next base : ℕ) : Type 0 where
-  pub queue : sets nodes (st .nodes * nodeSize) (flat pending (flat childOf rest)) ≡ sets nodes₀ (next * nodeSize) (flat pending (flat childOf all))
-  pub written : sets ports (st .ports) (flat portOf rest) ≡ sets ports₀ base (flat portOf all)
-  pub queued : st .nodes + length (flat childOf rest) ≡ next + length (flat childOf all)
-  pub leaves : st .ports + length (flat portOf rest) ≡ base + length (flat portOf all)
+  pub queue : sets nodes (st .nodes * nodeSize) (flat pending (flat slotChildren rest)) ≡ sets nodes₀ (next * nodeSize) (flat pending (flat slotChildren all))
+  pub written : sets ports (st .ports) (flat slotPorts rest) ≡ sets ports₀ base (flat slotPorts all)
+  pub queued : st .nodes + length (flat slotChildren rest) ≡ next + length (flat slotChildren all)
+  pub leaves : st .ports + length (flat slotPorts rest) ≡ base + length (flat slotPorts all)
   pub bits : st .bitmap * 2 ^ length rest + bitmap rest ≡ bitmap all
 
 same-queue : (o : Slot Stretch) (rest : List (Slot Stretch)) (nodes : List ℕ) (n : ℕ)
-    → sets (sets nodes (n * nodeSize) (flat pending (childOf o))) ((n + length (childOf o)) * nodeSize) (flat pending (flat childOf rest))
-    ≡ sets nodes (n * nodeSize) (flat pending (flat childOf (o ∷ rest)))
+    → sets (sets nodes (n * nodeSize) (flat pending (slotChildren o))) ((n + length (slotChildren o)) * nodeSize) (flat pending (flat slotChildren rest))
+    ≡ sets nodes (n * nodeSize) (flat pending (flat slotChildren (o ∷ rest)))
 same-queue o rest nodes n =
-    let e : (n + length (childOf o)) * nodeSize ≡ n * nodeSize + length (flat pending (childOf o)) = omega (arith, length-pending (childOf o)) in
-    ap (λ (k : ℕ). sets (sets nodes (n * nodeSize) (flat pending (childOf o))) k (flat pending (flat childOf rest))) e
-    ∙ sym (sets-append nodes (n * nodeSize) (flat pending (childOf o)) (flat pending (flat childOf rest)))
-    ∙ ap (sets nodes (n * nodeSize)) (sym (flat-append pending (childOf o) (flat childOf rest)))
+    let e : (n + length (slotChildren o)) * nodeSize ≡ n * nodeSize + length (flat pending (slotChildren o)) = omega (arith, length-pending (slotChildren o)) in
+    ap (λ (k : ℕ). sets (sets nodes (n * nodeSize) (flat pending (slotChildren o))) k (flat pending (flat slotChildren rest))) e
+    ∙ sym (sets-append nodes (n * nodeSize) (flat pending (slotChildren o)) (flat pending (flat slotChildren rest)))
+    ∙ ap (sets nodes (n * nodeSize)) (sym (flat-append pending (slotChildren o) (flat slotChildren rest)))
 
 same-more : (o : Slot Stretch) (rest : List (Slot Stretch)) (nodes ports : List ℕ) (st : Filled) (all : List (Slot Stretch)) (nodes₀ ports₀ : List ℕ) (next base : ℕ)
     → Same (o ∷ rest) nodes ports st all nodes₀ ports₀ next base
-    → Same rest (sets nodes (st .nodes * nodeSize) (flat pending (childOf o))) (sets ports (st .ports) (portOf o)) (filledBy o st) all nodes₀ ports₀ next base
+    → Same rest (sets nodes (st .nodes * nodeSize) (flat pending (slotChildren o))) (sets ports (st .ports) (slotPorts o)) (filledBy o st) all nodes₀ ports₀ next base
 same-more o rest nodes ports st all nodes₀ ports₀ next base h = record {
   queue = same-queue o rest nodes (st .nodes) ∙ h .queue;
-  written = sym (sets-append ports (st .ports) (portOf o) (flat portOf rest)) ∙ h .written;
-  queued = omega (arith, h .queued, length-append (childOf o) (flat childOf rest));
-  leaves = omega (arith, h .leaves, length-append (portOf o) (flat portOf rest));
+  written = sym (sets-append ports (st .ports) (slotPorts o) (flat slotPorts rest)) ∙ h .written;
+  queued = omega (arith, h .queued, length-append (slotChildren o) (flat slotChildren rest));
+  leaves = omega (arith, h .leaves, length-append (slotPorts o) (flat slotPorts rest));
   bits = pushed ∙ h .bits;
 }
   where
@@ -111,12 +111,12 @@ module _ (f : ℕ → Slot Stretch) (m : ℕ) (nodes₀ ports₀ : List ℕ) (ne
         (slots-next f (m - j) j (omega arith) ∙ ap₂ (λ (u : Slot Stretch) (i : ℕ). u ∷ listOf f i (j + 1)) (sym e) k) (l .same)
 
     pub filling-more : j < m → (o : Slot Stretch) → o ≡ f j → {nodes′ ports′ : List ℕ} {st′ : Filled} → st′ ≡ filledBy o st
-        → nodes′ ≡ sets nodes (st .nodes * nodeSize) (flat pending (childOf o)) → ports′ ≡ sets ports (st .ports) (portOf o)
+        → nodes′ ≡ sets nodes (st .nodes * nodeSize) (flat pending (slotChildren o)) → ports′ ≡ sets ports (st .ports) (slotPorts o)
         → Filling f m nodes₀ ports₀ next base nodes′ ports′ (j + 1) st′
     filling-more h o e {nodes′} {ports′} {st′} a b c = record {
       most = omega arith;
-      nodesLent = ap length b ∙ length-sets nodes (st .nodes * nodeSize) (flat pending (childOf o)) ∙ l .nodesLent;
-      portsLent = ap length c ∙ length-sets ports (st .ports) (portOf o) ∙ l .portsLent;
+      nodesLent = ap length b ∙ length-sets nodes (st .nodes * nodeSize) (flat pending (slotChildren o)) ∙ l .nodesLent;
+      portsLent = ap length c ∙ length-sets ports (st .ports) (slotPorts o) ∙ l .portsLent;
       small = rw a low;
       same = rw (a, b, c) (same-more o (listOf f (m - (j + 1)) (j + 1)) nodes ports st all nodes₀ ports₀ next base (here h o e));
     }
@@ -126,22 +126,22 @@ module _ (f : ℕ → Slot Stretch) (m : ℕ) (nodes₀ ports₀ : List ℕ) (ne
 
     -- the room that slot j needs is there
     pub filling-room : j < m → m ≤ 16 → (o : Slot Stretch) → o ≡ f j
-        → (next + length (flat childOf all)) * nodeSize ≤ length nodes₀ → base + length (flat portOf all) ≤ length ports₀
-        → (st .bitmap < 2 ^ 31) × ((st .nodes + length (childOf o)) * nodeSize ≤ length nodes) × (st .ports + length (portOf o) ≤ length ports)
+        → (next + length (flat slotChildren all)) * nodeSize ≤ length nodes₀ → base + length (flat slotPorts all) ≤ length ports₀
+        → (st .bitmap < 2 ^ 31) × ((st .nodes + length (slotChildren o)) * nodeSize ≤ length nodes) × (st .ports + length (slotPorts o) ≤ length ports)
     filling-room h few o e rn rp =
         let g = here h o e in
         let p : 2 ^ j ≤ 2 ^ 31 = pow-mono {i = j} {j = 31} (omega arith) in (
           omega (arith, p, l .small),
-          omega (arith, g .queued, rn, l .nodesLent, length-append (childOf o) (flat childOf (listOf f (m - (j + 1)) (j + 1)))),
-          omega (arith, g .leaves, rp, l .portsLent, length-append (portOf o) (flat portOf (listOf f (m - (j + 1)) (j + 1)))),
+          omega (arith, g .queued, rn, l .nodesLent, length-append (slotChildren o) (flat slotChildren (listOf f (m - (j + 1)) (j + 1)))),
+          omega (arith, g .leaves, rp, l .portsLent, length-append (slotPorts o) (flat slotPorts (listOf f (m - (j + 1)) (j + 1)))),
         )
 
     pub filling-all : m ≤ j
-        → (st ≡ filled (bitmap all) (next + length (flat childOf all)) (base + length (flat portOf all)))
-        × (nodes ≡ sets nodes₀ (next * nodeSize) (flat pending (flat childOf all))) × (ports ≡ sets ports₀ base (flat portOf all))
+        → (st ≡ filled (bitmap all) (next + length (flat slotChildren all)) (base + length (flat slotPorts all)))
+        × (nodes ≡ sets nodes₀ (next * nodeSize) (flat pending (flat slotChildren all))) × (ports ≡ sets ports₀ base (flat slotPorts all))
     filling-all h =
         let g = subst (λ (r : List (Slot Stretch)). Same r nodes ports st all nodes₀ ports₀ next base) (slots-none f (m - j) j (omega arith)) (l .same) in
         let b : st .bitmap ≡ bitmap all = omega (arith, g .bits) in
-        let q : st .nodes ≡ next + length (flat childOf all) = omega (arith, g .queued) in
-        let r : st .ports ≡ base + length (flat portOf all) = omega (arith, g .leaves) in
+        let q : st .nodes ≡ next + length (flat slotChildren all) = omega (arith, g .queued) in
+        let r : st .ports ≡ base + length (flat slotPorts all) = omega (arith, g .leaves) in
         ((λ i. record { bitmap = b i; nodes = q i; ports = r i }), g .queue, g .written)

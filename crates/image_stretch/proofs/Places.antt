@@ -18,12 +18,12 @@ use Rattle.routes.specs.Scan.{routeMatches, lastMatch}
 use Rattle.routes.specs.declared.Route.{Route}
 use Rattle.routes.proofs.Rising.{before}
 use Rattle.image_stretch.specs.declared.Stretch.{Stretch}
-use Rattle.image_stretch.specs.Stretches.{stretch, past, lastFrom, ahead, under, fromOf, toOf, slotStretch, addressOf, slotAddress}
+use Rattle.image_stretch.specs.Stretches.{stretch, past, lastFrom, standsBefore, under, fromOf, toOf, slotStretch, addressOf, slotAddress}
 use Rattle.image_stretch.proofs.Search.{Passed, passed, last-match-alike, last-from-is}
 
 -- route i stands before the prefix v/l
-abbrev pub Ahead : (ℕ → Route) → ℕ → ℕ → ℕ → Type 0
-Ahead R v l i = Precedes (R i .value) (R i .len) v l
+abbrev pub StandsBefore : (ℕ → Route) → ℕ → ℕ → ℕ → Type 0
+StandsBefore R v l i = Precedes (R i .value) (R i .len) v l
 
 -- x is the stretch of the place whose first (depth) bits write h: before it stand the routes before the place's prefix, in it those
 -- that begin with its bits, and after it those past its last address
@@ -32,8 +32,8 @@ pub record Place (w : ℕ) (R : ℕ → Route) (n h : ℕ) (x : Stretch) : Type 
   pub deep : x .depth ≤ w
   pub rows : x .lo ≤ x .hi
   pub most : x .hi ≤ n
-  pub first : (i : ℕ) → i < x .lo → Ahead R (start w (x .depth) h) (x .depth) i
-  pub from : (i : ℕ) → x .lo ≤ i → i < n → Ahead R (start w (x .depth) h) (x .depth) i → ⊥
+  pub first : (i : ℕ) → i < x .lo → StandsBefore R (start w (x .depth) h) (x .depth) i
+  pub from : (i : ℕ) → x .lo ≤ i → i < n → StandsBefore R (start w (x .depth) h) (x .depth) i → ⊥
   pub inside : (i : ℕ) → x .lo ≤ i → i < x .hi → head w (x .depth) (R i .value) ≡ h
   pub after : (i : ℕ) → x .hi ≤ i → i < n → start w (x .depth) h + span w (x .depth) ≤ R i .value
   pub best : x .best ≡ lastMatch w R (x .lo) (start w (x .depth) h)
@@ -139,8 +139,8 @@ module _ (w : ℕ) (R : ℕ → Route) (n : ℕ) (ok : ValidList w R n) where
       abbrev hi : ℕ
       hi = toOf w R x at deeper
 
-      some-from : Passed (ahead R at deeper) (x .hi - x .lo) (x .lo) lo
-      some-from = passed (ahead R at deeper) (x .hi - x .lo) (x .lo)
+      some-from : Passed (standsBefore R at deeper) (x .hi - x .lo) (x .lo) lo
+      some-from = passed (standsBefore R at deeper) (x .hi - x .lo) (x .lo)
 
       lo-le : lo ≤ x .hi
       lo-le = omega (arith, some-from .most, p .rows)
@@ -151,20 +151,20 @@ module _ (w : ℕ) (R : ℕ → Route) (n : ℕ) (ok : ValidList w R n) where
       hi-le : hi ≤ x .hi
       hi-le = omega (arith, some-to .most, lo-le)
 
-      first-in : (i : ℕ) → i < lo → Ahead R at deeper i
+      first-in : (i : ℕ) → i < lo → StandsBefore R at deeper i
       first-in i k =
           ⊎-elim
           (λ (q : i < x .lo). ahead-later (p .first i q) (omega (arith, at-is)) (omega arith))
           (λ (q : x .lo ≤ i). precedes-is (R i .value) (R i .len) at deeper (some-from .holds i q k))
           (lt-or-le i (x .lo))
 
-      from-in : (i : ℕ) → lo ≤ i → i < n → Ahead R at deeper i → ⊥
+      from-in : (i : ℕ) → lo ≤ i → i < n → StandsBefore R at deeper i → ⊥
       from-in i k m a = ⊎-elim near far (lt-or-le i (x .hi))
         where
           far : x .hi ≤ i → ⊥
           far q = omega (arith, precedes-value-le a, p .after i q m, at-end, span-pos w deeper)
 
-          here : lo < x .hi → Ahead R at deeper lo → ⊥
+          here : lo < x .hi → StandsBefore R at deeper lo → ⊥
           here q b =
               true≢false (sym (precedes-yes (R lo .value) (R lo .len) at deeper b) ∙ some-from .stops (omega (arith, p .rows)))
 
@@ -172,7 +172,7 @@ module _ (w : ℕ) (R : ℕ → Route) (n : ℕ) (ok : ValidList w R n) where
           near q =
               ⊎-elim
               (λ (u : lo < i). here (omega arith) (precedes-trans (before w R n ok lo i u m) a))
-              (λ (u : i ≤ lo). let z : i ≡ lo = omega arith in here (omega arith) (subst (Ahead R at deeper) z a))
+              (λ (u : i ≤ lo). let z : i ≡ lo = omega arith in here (omega arith) (subst (StandsBefore R at deeper) z a))
               (lt-or-le lo i)
 
       inside-in : (i : ℕ) → lo ≤ i → i < hi → head w deeper (R i .value) ≡ bits

@@ -28,7 +28,7 @@ use Rattle.image_rules.proofs.Numbering.{Below, level-all, levels-is, first-chi
 use Rattle.image_rules.proofs.Alike.{Each, Alike, length-each, levels-alike, words-alike, tree-ports-alike}
 use Rattle.image_rules.proofs.Image.{strides-make, levels-pos}
 use Rattle.image_stretch.specs.declared.Stretch.{Stretch}
-use Rattle.image_stretch.specs.Stretches.{goesOn, leafPort, slotIn, slotStretch, slotAt, stretchSlots, rootOf, stretches}
+use Rattle.image_stretch.specs.Stretches.{goesOn, leafPort, slotIn, slotStretch, stretchSlot, stretchSlots, rootOf, stretches}
 use Rattle.image_stretch.specs.Memory.{usedAfter}
 use Rattle.image_stretch.specs.Theorems.{StretchesImage}
 use Rattle.image_stretch.proofs.Places.{Place, y, slot-place, slot-within, slot-address-is}
@@ -73,7 +73,7 @@ module _ (w s : ℕ) (R : ℕ → Route) (n : ℕ) (ok : ValidList w R n) where
     pub below-within : (x .lo ≤ below .lo) × (below .hi ≤ x .hi) × (below .depth ≡ x .depth + s)
     below-within = slot-within w R n ok x (t .bitsAt) (t .place) s j (fits-of (suc k) x t) l
 
-    pub slot-at-is : slotAt w R s x j ≡ slotIn R below
+    pub slot-at-is : stretchSlot w R s x j ≡ slotIn R below
     slot-at-is =
         ap (λ (v : ℕ). slotIn R (slotStretch w R x v (x .depth + s)))
         (slot-address-is w R n ok x (t .bitsAt) (t .place) s j (fits-of (suc k) x t) l (t .found))
@@ -95,19 +95,19 @@ module _ (w s : ℕ) (R : ℕ → Route) (n : ℕ) (ok : ValidList w R n) where
         }
 
     -- the slot by the test of its stretch
-    slot-by : (b : Bool) → goesOn R below ≡ b → slotAt w R s x j ≡ cond b (nonLeaf below) (leaf (leafPort R below))
+    slot-by : (b : Bool) → goesOn R below ≡ b → stretchSlot w R s x j ≡ cond b (nonLeaf below) (leaf (leafPort R below))
     slot-by b e = slot-at-is ∙ ap (λ (c : Bool). cond c (nonLeaf below) (leaf (leafPort R below))) e
 
-    pub slot-leaf : goesOn R below ≡ false → slotAt w R s x j ≡ leaf (leafPort R below)
+    pub slot-leaf : goesOn R below ≡ false → stretchSlot w R s x j ≡ leaf (leafPort R below)
     slot-leaf e = slot-by false e
 
-    pub slot-on : goesOn R below ≡ true → slotAt w R s x j ≡ nonLeaf below
+    pub slot-on : goesOn R below ≡ true → stretchSlot w R s x j ≡ nonLeaf below
     slot-on e = slot-by true e
 
-    slot-below : Below (Stands w s R n) k (slotAt w R s x j)
+    slot-below : Below (Stands w s R n) k (stretchSlot w R s x j)
     slot-below = by (goesOn R below) refl
       where
-        by : (b : Bool) → goesOn R below ≡ b → Below (Stands w s R n) k (slotAt w R s x j)
+        by : (b : Bool) → goesOn R below ≡ b → Below (Stands w s R n) k (stretchSlot w R s x j)
         by true e = subst (Below (Stands w s R n) k) (sym (slot-on e)) (below-stands e)
         by false e = subst (Below (Stands w s R n) k) (sym (slot-leaf e)) tt
 
@@ -118,7 +118,7 @@ module _ (w s : ℕ) (R : ℕ → Route) (n : ℕ) (ok : ValidList w R n) where
     pub path : q ≡ bits (x .depth) (stands .bitsAt)
 
   slot-alike : (k : ℕ) (x : Stretch) (t : Stands w s R n (suc k) x) (j : ℕ) → j < 2 ^ s
-      → Alike Like (slotAt w R s x j) (slotOf (routesOf w R n) (slotBits s (bits (x .depth) (t .bitsAt)) j))
+      → Alike Like (stretchSlot w R s x j) (slotOf (routesOf w R n) (slotBits s (bits (x .depth) (t .bitsAt)) j))
   unfolding below-stands
   slot-alike k x t j l = by (goesOn R (below k x t j l)) refl
     where
@@ -141,7 +141,7 @@ module _ (w s : ℕ) (R : ℕ → Route) (n : ℕ) (ok : ValidList w R n) where
           ∙ ap (λ (c : Bool). cond c (nonLeaf (bits (z .depth) (t .bitsAt * 2 ^ s + j))) (leaf (scanList (routesOf w R n) (bits (z .depth) (t .bitsAt * 2 ^ s + j)))))
           (sym (goes-on-is w R n ok z (t .bitsAt * 2 ^ s + j) p) ∙ e)
 
-      by : (b : Bool) → goesOn R z ≡ b → Alike Like (slotAt w R s x j) (slotOf (routesOf w R n) (slotBits s (bits (x .depth) (t .bitsAt)) j))
+      by : (b : Bool) → goesOn R z ≡ b → Alike Like (stretchSlot w R s x j) (slotOf (routesOf w R n) (slotBits s (bits (x .depth) (t .bitsAt)) j))
       by true e = rw (slot-on k x t j l e, is true e) record { levels = k; stands = below-stands k x t j l e; path = refl }
       by false e = rw (slot-leaf k x t j l e, is false e) (leaf-port-is w R n ok z (t .bitsAt * 2 ^ s + j) p e)
 
@@ -152,11 +152,11 @@ module _ (w s : ℕ) (R : ℕ → Route) (n : ℕ) (ok : ValidList w R n) where
           → Each (Alike Like) (stretchSlots w R s (2 ^ s) x) (slots (routesOf w R n) s q)
       by zero u e = absurd (omega (arith, u .some))
       by (suc k) u e =
-          rw e (each-list-of (Alike Like) (slotAt w R s x) (λ j. slotOf (routesOf w R n) (slotBits s (bits (x .depth) (u .bitsAt)) j)) (2 ^ s) 0
+          rw e (each-list-of (Alike Like) (stretchSlot w R s x) (λ j. slotOf (routesOf w R n) (slotBits s (bits (x .depth) (u .bitsAt)) j)) (2 ^ s) 0
           (λ j a b. slot-alike k x u j (omega arith)))
 
   pub slots-below : (k : ℕ) (x : Stretch) → Stands w s R n (suc k) x → All (Below (Stands w s R n) k) (stretchSlots w R s (2 ^ s) x)
-  slots-below k x t = all-list-of-below (Below (Stands w s R n) k) (slotAt w R s x) (2 ^ s) 0 (λ j a b. slot-below k x t j (omega arith))
+  slots-below k x t = all-list-of-below (Below (Stands w s R n) k) (stretchSlot w R s x) (2 ^ s) 0 (λ j a b. slot-below k x t j (omega arith))
 
   -- the root
   root-place : Place w R n 0 (rootOf n)

@@ -7,7 +7,7 @@ use lib.ListN.{length, getD, take, drop}
 use lib.Seq.{sets}
 use Rattle.lists.specs.Flat.{flat, upto}
 use Rattle.image_rules.specs.Node.{nodeSize, nodeWords, offset}
-use Rattle.image_rules.specs.Breadth.{Slot, childOf, portOf, leafBit, bitmap, children, leafPorts, treeWords}
+use Rattle.image_rules.specs.Breadth.{Slot, slotChildren, slotPorts, leafBit, bitmap, children, leafPorts, treeWords}
 use Rattle.image_stretch.specs.declared.Stretch.{Stretch}
 use Rattle.image_stretch.specs.declared.Filled.{Filled}
 use Rattle.image_stretch.specs.declared.Used.{Used}
@@ -31,7 +31,7 @@ filled bitmap nodes ports = record { bitmap = bitmap; nodes = nodes; ports = por
 
 -- one slot more of a node
 abbrev pub filledBy : Slot Stretch → Filled → Filled
-filledBy o st = filled (st .bitmap * 2 + leafBit o) (st .nodes + length (childOf o)) (st .ports + length (portOf o))
+filledBy o st = filled (st .bitmap * 2 + leafBit o) (st .nodes + length (slotChildren o)) (st .ports + length (slotPorts o))
 
 -- one node done: its children are put after the nodes in use, and then its words over its own
 abbrev pub turnNodes : (Stretch → List (Slot Stretch)) → List ℕ → ℕ → ℕ → ℕ → Stretch → List ℕ

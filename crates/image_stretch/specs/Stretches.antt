@@ -32,15 +32,15 @@ lastFrom w R a port lo zero = port
 lastFrom w R a port lo (suc k) = cond (routeMatches w a (R (lo + k))) (carried (R (lo + k))) (lastFrom w R a port lo k)
 
 -- route i stands before the prefix v/l, and its value is one of the prefix's addresses
-abbrev pub ahead : (ℕ → Route) → ℕ → ℕ → ℕ → Bool
-ahead R v l i = precedes (R i .value) (R i .len) v l
+abbrev pub standsBefore : (ℕ → Route) → ℕ → ℕ → ℕ → Bool
+standsBefore R v l i = precedes (R i .value) (R i .len) v l
 
 abbrev pub under : ℕ → (ℕ → Route) → ℕ → ℕ → ℕ → Bool
 under w R v l i = matches w v l (R i .value)
 
 -- where the routes that begin with the bits of v/l start, and where they end, within a stretch that has them all
 abbrev pub fromOf : (ℕ → Route) → Stretch → ℕ → ℕ → ℕ
-fromOf R x v l = past (ahead R v l) (x .hi - x .lo) (x .lo)
+fromOf R x v l = past (standsBefore R v l) (x .hi - x .lo) (x .lo)
 
 abbrev pub toOf : ℕ → (ℕ → Route) → Stretch → ℕ → ℕ → ℕ
 toOf w R x v l = past (under w R v l) (x .hi - fromOf R x v l) (fromOf R x v l)
@@ -69,12 +69,12 @@ addressOf w R x = cond (ltb (x .lo) (x .hi)) (first w (R (x .lo) .value) (x .dep
 abbrev pub slotAddress : ℕ → ℕ → ℕ → ℕ → ℕ
 slotAddress w address l j = (address + j * span w l) % 2 ^ w
 
-abbrev pub slotAt : ℕ → (ℕ → Route) → ℕ → Stretch → ℕ → Slot Stretch
-slotAt w R s x j = slotIn R (slotStretch w R x (slotAddress w (addressOf w R x) (x .depth + s) j) (x .depth + s))
+abbrev pub stretchSlot : ℕ → (ℕ → Route) → ℕ → Stretch → ℕ → Slot Stretch
+stretchSlot w R s x j = slotIn R (slotStretch w R x (slotAddress w (addressOf w R x) (x .depth + s) j) (x .depth + s))
 
 -- m slots of a node
 abbrev pub stretchSlots : ℕ → (ℕ → Route) → ℕ → ℕ → Stretch → List (Slot Stretch)
-stretchSlots w R s m x = listOf (slotAt w R s x) m 0
+stretchSlots w R s m x = listOf (stretchSlot w R s x) m 0
 
 -- the root has all n routes, and inherits no port
 abbrev pub rootOf : ℕ → Stretch

@@ -1,6 +1,6 @@
 -- Laws of the sweep and of the listing's answers.
 pub mod Open
-pub mod Written
 pub mod Turns
 pub mod Answers
 pub mod Unique
+pub mod Writing

@@ -19,7 +19,7 @@ use Rattle.routes.specs.Scan.{scanOf, lastMatch, routeMatches}
 use Rattle.routes.specs.declared.Route.{Route}
 use Rattle.routes.proofs.Rising.{before, match-longer}
 use Rattle.routes.proofs.Scan.{scan-is-last}
-use Rattle.list_runs.specs.Sweep.{startOf, endOf, portOf, topOf, lesser}
+use Rattle.list_runs.specs.Sweep.{startOf, endOf, portAt, topOf, lesser}
 
 -- the innermost open route
 
@@ -57,12 +57,12 @@ module _ (w : ℕ) (R : ℕ → Route) (n : ℕ) where
   unfolding endOf
   end-out k h = rw (le-ltb k n h)
 
-  port-in : (k : ℕ) → k < n → portOf R n k ≡ R k .port
-  unfolding portOf
+  port-in : (k : ℕ) → k < n → portAt R n k ≡ R k .port
+  unfolding portAt
   port-in k h = rw (lt-ltb k n h)
 
-  port-out : (k : ℕ) → n ≤ k → portOf R n k ≡ 0
-  unfolding portOf
+  port-out : (k : ℕ) → n ≤ k → portAt R n k ≡ 0
+  unfolding portAt
   port-out k h = rw (le-ltb k n h)
 
   -- a route that begins at an address is there
@@ -230,7 +230,7 @@ module _ (w : ℕ) (R : ℕ → Route) (n : ℕ) where
 
     -- what the open routes give an address before the innermost ends
     look-top : (stack : List ℕ) (d i at a : ℕ) → Open stack d i at → a < endOf w R n (topOf stack d n)
-        → look stack d a ≡ portOf R n (topOf stack d n)
+        → look stack d a ≡ portAt R n (topOf stack d n)
     unfolding look
     look-top stack zero i at a o h = rw (top-none stack n, port-out n (omega arith)) refl
     look-top stack (suc d) i at a o h =
@@ -241,7 +241,7 @@ module _ (w : ℕ) (R : ℕ → Route) (n : ℕ) where
 
     -- up to the next end or beginning there is one port
     pub open-port : (stack : List ℕ) (d i at a : ℕ) → Open stack d i at → at ≤ a → a < endOf w R n (topOf stack d n)
-        → a < startOf w R n i → scanOf w R n a ≡ portOf R n (topOf stack d n)
+        → a < startOf w R n i → scanOf w R n a ≡ portAt R n (topOf stack d n)
     open-port stack d i at a o h e s =
         let z : i + (n - i) ≡ n = omega (arith, o .taken) in
         scan-is-last w R n a ok ∙ ap (λ (k : ℕ). lastMatch w R k a) (sym z)

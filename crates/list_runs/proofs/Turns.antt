@@ -13,9 +13,9 @@ use Rattle.routes.specs.Routes.{ValidList}
 use Rattle.routes.specs.Scan.{scanOf}
 use Rattle.routes.specs.declared.Route.{Route}
 use Rattle.runs_rules.specs.Runs.{run, runs, runsFrom}
-use Rattle.list_runs.specs.Sweep.{startOf, endOf, portOf, topOf, lesser}
+use Rattle.list_runs.specs.Sweep.{startOf, endOf, portAt, topOf, lesser}
 use Rattle.list_runs.proofs.Open.{Open, open-closed, open-pushed, open-port, open-on, start-le, lesser-lt, lesser-le}
-use Rattle.list_runs.proofs.Written.{Counted, counted-on, run-ends}
+use Rattle.list_runs.proofs.Writing.{Counted, counted-on, run-ends}
 
 -- the present address, the innermost open route, and where it ends
 module _ {w : ℕ} {R : ℕ → Route} {n : ℕ} (ok : ValidList w R n) {stack : List ℕ} {d i at : ℕ} (o : Open w R n stack d i at)
@@ -33,12 +33,12 @@ module _ {w : ℕ} {R : ℕ → Route} {n : ℕ} (ok : ValidList w R n) {stack :
     turn-push h = open-pushed w R n ok stack d i at o lt (omega (arith, next-is)) (omega (arith, stops))
 
     -- or begins later: here is the port up to there
-    module _ {here : ℕ} (here-is : here ≡ portOf R n top) (later : at < next)
+    module _ {here : ℕ} (here-is : here ≡ portAt R n top) (later : at < next)
         {lent left : List ℕ} {write : Bool} {first port k : ℕ} (c : Counted (scanOf w R n) (2 ^ w) lent write left first at port k) where
       port-here : (x : ℕ) → at ≤ x → x < stop → x < next → scanOf w R n x ≡ here
       port-here x u v t =
           open-port w R n ok stack d i at x o u (omega (arith, stops)) (omega (arith, next-is))
-          ∙ ap (λ (t : ℕ). portOf R n t) (sym top-is) ∙ sym here-is
+          ∙ ap (λ (t : ℕ). portAt R n t) (sym top-is) ∙ sym here-is
 
       -- the open run begins here, or goes on with its port
       pub turn-on : (to : ℕ) → to ≡ lesser stop next → (eqb first at || eqb here port) ≡ true

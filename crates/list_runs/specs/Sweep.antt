@@ -20,8 +20,8 @@ unfoldable pub endOf : ℕ → (ℕ → Route) → ℕ → ℕ → ℕ
 endOf w R n k = cond (ltb k n) (last w (R k .value) (R k .len) + 1) (2 ^ w)
 
 -- its port; past the n routes, none
-unfoldable pub portOf : (ℕ → Route) → ℕ → ℕ → ℕ
-portOf R n k = cond (ltb k n) (R k .port) 0
+unfoldable pub portAt : (ℕ → Route) → ℕ → ℕ → ℕ
+portAt R n k = cond (ltb k n) (R k .port) 0
 
 -- the innermost of the open routes, n if none is open
 unfoldable pub topOf : List ℕ → ℕ → ℕ → ℕ

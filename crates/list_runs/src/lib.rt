@@ -3,10 +3,10 @@ ghost use mathlib.Core.Path.{_≡_};
 ghost use mathlib.Core.Bool.{true, cond};
 ghost use Prim.Native.Nat.{_+_, _*_, _^_, _≤_, _<_};
 ghost use lib.ListN.{length};
-ghost use Rattle.promise.specs.Over.{outcome, put3};
+ghost use Rattle.promise.specs.Over.{outcome, storeThree};
 ghost use Rattle.routes.specs.Routes.{routeAt, ValidList};
 ghost use Rattle.runs_rules.specs.Listing.{listed, writeRuns, listRuns};
-ghost use Rattle.list_runs.specs.Sweep.{startOf, endOf, portOf, topOf, lesser, Ready, Swept};
+ghost use Rattle.list_runs.specs.Sweep.{startOf, endOf, portAt, topOf, lesser, Ready, Swept};
 use prefix::Prefix;
 use routes::Answer;
 use routes::check_list;
@@ -50,7 +50,7 @@ fn end_of(list: &[u32], n: usize, k: usize) -> u64
 
 // The port of route k; past the n routes, none.
 fn port_of(list: &[u32], n: usize, k: usize) -> u32
-    ensures { λ r. ⌜ r ≡ portOf (routeAt (now (list .entry))) n k ⌝ }
+    ensures { λ r. ⌜ r ≡ portAt (routeAt (now (list .entry))) n k ⌝ }
 {
     if k < n {
         return route_at(list, k).port;
@@ -81,7 +81,7 @@ fn lesser_of(a: u64, b: u64) -> u64
 // Writes run k where that is asked, and gives the number of the next.
 fn end_run(runs: &mut [u32], k: usize, first: u64, last: u64, port: u32, write: bool) -> usize
     requires { ⌜ (first < 2 ^ 32) × (last < 2 ^ 32) × (k < 2 ^ 32) × (write ≡ true → k * 3 + 3 ≤ length (now runs)) ⌝ }
-    ensures { λ r. ⌜ (r ≡ k + 1) × (now (runs .exit) ≡ cond write (put3 (now (runs .entry)) (k * 3) first last port) (now (runs .entry))) ⌝ }
+    ensures { λ r. ⌜ (r ≡ k + 1) × (now (runs .exit) ≡ cond write (storeThree (now (runs .entry)) (k * 3) first last port) (now (runs .entry))) ⌝ }
 {
     if write {
         let at = k * 3;

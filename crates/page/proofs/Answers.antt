@@ -22,13 +22,13 @@ use Rattle.file_rules.specs.Calls.{checkedThen, listOfRoutes, readFile}
 use Rattle.file_rules.proofs.Words.{length-list, route-in-list}
 use Rattle.file_rules.proofs.Trips.{checked-refused, checked-short, checked-done, done-checked}
 use Rattle.file_rules.proofs.Walk.{accepted-whole}
-use Rattle.file_rules.proofs.Accepted.{file-valid}
+use Rattle.file_rules.proofs.Whole.{file-valid}
 use Rattle.runs_rules.specs.Runs.{Run, runWords}
 use Rattle.runs_rules.specs.Listing.{listed, mostRuns, writeRuns}
 use Rattle.runs_rules.proofs.Listing.{listed-few, length-run-words}
 use Rattle.runs_rules.proofs.Same.{listed-same, valid-same}
 use Rattle.page.specs.Page.{linesOf, header, runsText, refusedText, mostBytes, mostRoutesShown, pageText, pageRoom, pageOf, runAt}
-use Rattle.page.specs.Put.{Wrote, Lined, Shown}
+use Rattle.page.specs.Needs.{Wrote, Lined, Shown}
 use Rattle.page.proofs.Wrote.{wrote-as, wrote-over}
 use Rattle.page.proofs.Lines.{runs-of-words}
 

@@ -11,7 +11,7 @@ use Rattle.lists.proofs.Numbered.{list-of-snoc}
 use Rattle.runs_rules.specs.Runs.{Run, run, runWords}
 use Rattle.page.specs.Text.{newline, space, numeral, address}
 use Rattle.page.specs.Page.{lineOf, linesOf, runAt}
-use Rattle.page.specs.Put.{Wrote}
+use Rattle.page.specs.Needs.{Wrote}
 use Rattle.page.proofs.Wrote.{wrote-more, wrote-as}
 use Rattle.page.proofs.Text.{decimal-le, dotted-le}
 

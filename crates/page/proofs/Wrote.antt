@@ -7,7 +7,7 @@ use lib.ListN.{length, getD, set, take, drop, length-append, take-append-drop}
 use native.Mathlib.Numerals.{add-one}
 use lib.Seq.{drop-drop, take-suc, take-all, take-suc-set, drop-set-lt}
 use Rattle.promise.specs.Over.{over}
-use Rattle.page.specs.Put.{Wrote}
+use Rattle.page.specs.Needs.{Wrote}
 
 module _ {out : List ℕ} {at : ℕ} where
   -- a text, and one after it

@@ -10,7 +10,7 @@ ghost use Rattle.lists.specs.Numbered.{listOf};
 ghost use Rattle.runs_rules.specs.Runs.{run};
 ghost use Rattle.runs_rules.specs.Listing.{listed};
 ghost use Rattle.page.specs.Page.{lineOf, linesOf, header, runsText, refusedText, runAt, pageOf};
-ghost use Rattle.page.specs.Put.{Wrote, Lined, Shown};
+ghost use Rattle.page.specs.Needs.{Wrote, Lined, Shown};
 use file_read::read_file;
 use list_runs::write_runs;
 use put::put_byte;

@@ -4,7 +4,7 @@ ghost use mathlib.Core.List.{[], _∷_};
 ghost use Prim.Native.Nat.{_+_, _≤_, _<_};
 ghost use lib.ListN.{length};
 ghost use Rattle.page.specs.Text.{numeral, dotted};
-ghost use Rattle.page.specs.Put.{Wrote};
+ghost use Rattle.page.specs.Needs.{Wrote};
 
 pub(crate) fn put_byte(out: &mut [u8], at: usize, byte: u8) -> usize
     requires { ⌜ at < length (now out) ⌝ }

@@ -6,7 +6,7 @@ use native.Mathlib.Omega.{arith}
 use native.Mathlib.Numerals.{add-one}
 use lib.ListN.{length, getD, set, drop, length-append, length-drop, length-set}
 use lib.Seq.{drop-cons, set-append-seam, append-snoc}
-use Rattle.promise.specs.Over.{over, put3}
+use Rattle.promise.specs.Over.{over, storeThree}
 
 module _ {A : Type 0} where
   -- one element more
@@ -24,9 +24,9 @@ module _ {A : Type 0} where
   length-over out lent h = simp (length-append, length-drop) (omega arith)
 
 -- three words more
-pub over-put3 : (out lent : List ℕ) (a b c at : ℕ) → length out ≡ at → at + 3 ≤ length lent
-    → put3 (over out lent) at a b c ≡ over (out ++ (a ∷ b ∷ c ∷ [])) lent
-over-put3 out lent a b c at l h =
+pub over-three : (out lent : List ℕ) (a b c at : ℕ) → length out ≡ at → at + 3 ≤ length lent
+    → storeThree (over out lent) at a b c ≡ over (out ++ (a ∷ b ∷ c ∷ [])) lent
+over-three out lent a b c at l h =
     let m : length (out ++ (a ∷ [])) ≡ at + 1 = length-append out (a ∷ []) ∙ ap (λ (i : ℕ). i + 1) l in
     let n : length (out ++ (a ∷ []) ++ (b ∷ [])) ≡ at + 2 = length-append (out ++ (a ∷ [])) (b ∷ []) ∙ omega (arith, m) in
     ap (λ (x : List ℕ). set (set x (at + 1) b) (at + 2) c) (over-push out lent a at l (omega arith))

@@ -8,8 +8,8 @@ abbrev pub over : {A : Type 0} → List A → List A → List A
 over out lent = out ++ drop (length out) lent
 
 -- three words stored one after the other
-abbrev pub put3 : List ℕ → ℕ → ℕ → ℕ → ℕ → List ℕ
-put3 words at a b c = set (set (set words at a) (at + 1) b) (at + 2) c
+abbrev pub storeThree : List ℕ → ℕ → ℕ → ℕ → ℕ → List ℕ
+storeThree words at a b c = set (set (set words at a) (at + 1) b) (at + 2) c
 
 -- what a call answers, and what it leaves in the memory it was lent to write
 pub record Outcome (A : Type 0) : Type 0 where

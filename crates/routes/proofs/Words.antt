@@ -7,7 +7,7 @@ use native.Mathlib.Nat.{add-zero}
 use native.Mathlib.Numerals.{towards-suc}
 use lib.ListN.{length, getD, take, drop, length-append}
 use lib.Seq.{sets, sets-eq, take-at, split-at, length-take-le, getD-append-add, drop-append-add}
-use Rattle.promise.specs.Over.{put3}
+use Rattle.promise.specs.Over.{storeThree}
 use Rattle.routes.specs.Routes.{routeAt, routeWords, wordsOf}
 use Rattle.routes.specs.declared.Route.{Route}
 
@@ -34,10 +34,10 @@ module _ (X Y : List ℕ) (j : ℕ) (at : length X ≡ j * 3) where
       word k =
           ap (λ (a : ℕ). getD (X ++ (routeWords z ++ Y)) (a + k) 0) (sym at) ∙ getD-append-add X (routeWords z ++ Y) k 0
 
-  pub put-words : (h x : Route) → put3 (X ++ (routeWords h ++ Y)) (j * 3) (x .value) (x .len) (x .port) ≡ X ++ (routeWords x ++ Y)
+  pub put-words : (h x : Route) → storeThree (X ++ (routeWords h ++ Y)) (j * 3) (x .value) (x .len) (x .port) ≡ X ++ (routeWords x ++ Y)
   put-words h x =
       let ws : List ℕ = X ++ (routeWords h ++ Y) in
-      let s : put3 ws (j * 3) (x .value) (x .len) (x .port) ≡ sets ws (j * 3) (routeWords x) = simp towards-suc in
+      let s : storeThree ws (j * 3) (x .value) (x .len) (x .port) ≡ sets ws (j * 3) (routeWords x) = simp towards-suc in
       let m : j * 3 + 3 ≤ length ws = omega (arith, length-append X (routeWords h ++ Y)) in
       s
       ∙ sets-eq (routeWords x) ws (j * 3) m

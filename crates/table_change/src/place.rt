@@ -1,9 +1,10 @@
 // Rows and routes by value: what an update reads off a row, and the row that it leaves.
 ghost use mathlib.Core.Path.{_≡_};
+ghost use mathlib.Core.Bool.{cond};
 ghost use Prim.Native.Nat.{_<_};
 ghost use Rattle.table_rules.specs.Rows.{child, routeOf, leafRow, withRoute, withChild};
 ghost use Rattle.bits.specs.Bits.{bitBefore};
-ghost use Rattle.table_rules.specs.Announce.{isSame, isOver, pick};
+ghost use Rattle.table_rules.specs.Announce.{isSame, outranksRow};
 use routes::Route;
 use table_rules::Row;
 
@@ -88,15 +89,15 @@ pub(crate) fn is_same(q: Route, x: Row) -> bool
 }
 
 // Whether the route is to hold the row's place: the place's own prefix first, then the longer, then the smaller value.
-pub(crate) fn is_over(depth: u32, q: Route, x: Row) -> bool
-    ensures { λ r. ⌜ r ≡ isOver depth q x ⌝ }
+pub(crate) fn outranks_row(depth: u32, q: Route, x: Row) -> bool
+    ensures { λ r. ⌜ r ≡ outranksRow depth q x ⌝ }
 {
     (depth < x.len)
         & (!(depth < q.len) | ((x.len < q.len) | ((x.len == q.len) & (q.value < x.value))))
 }
 
-pub(crate) fn pick(first: bool, a: Route, b: Route) -> Route
-    ensures { λ r. ⌜ r ≡ pick first a b ⌝ }
+pub(crate) fn route_if(first: bool, a: Route, b: Route) -> Route
+    ensures { λ r. ⌜ r ≡ cond first a b ⌝ }
 {
     if first { a } else { b }
 }

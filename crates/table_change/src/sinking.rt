@@ -6,10 +6,10 @@ ghost use Rattle.table_rules.specs.Announce.{sink, heldAt, isHeld, announced};
 ghost use Rattle.table_change.specs.Plan.{planOf, leafInto};
 use crate::place::bit_before;
 use crate::place::child_of;
-use crate::place::is_over;
 use crate::place::is_same;
 use crate::place::leaf_row;
-use crate::place::pick;
+use crate::place::outranks_row;
+use crate::place::route_if;
 use crate::place::route_of;
 use crate::place::with_child;
 use crate::place::with_route;
@@ -31,9 +31,9 @@ fn plan_for(x: Row, q: Route, left: u32) -> Plan
     requires { ⌜ left < 32 ⌝ }
     ensures { λ r. ⌜ r ≡ planOf 32 x q left ⌝ }
 {
-    let over = is_over(31 - left, q, x);
-    let lower = pick(over, route_of(x), q);
-    let upper = with_route(x, pick(over, q, route_of(x)));
+    let over = outranks_row(31 - left, q, x);
+    let lower = route_if(over, route_of(x), q);
+    let upper = with_route(x, route_if(over, q, route_of(x)));
     let right = bit_before(lower.value, left);
     Plan {
         upper,
@@ -65,7 +65,7 @@ pub(crate) fn held_from_root(rows: &[u32], q: Route) -> bool
             return true;
         }
         left -= 1;
-        if is_over(31 - left, q, x) {
+        if outranks_row(31 - left, q, x) {
             return false;
         }
         row = child_of(x, bit_before(q.value, left));

@@ -1,4 +1,4 @@
 -- Laws that the functions of the table cite.
 pub mod Search
-pub mod Checked
 pub mod Unique
+pub mod GoodWalk

@@ -10,14 +10,14 @@ use lib.ListN.{length, length-append}
 use borrow.Author.Tests.{eq-eqb, ne-eqb}
 use Rattle.bits.specs.Bits.{Bits, prefixBits, same, bitBefore}
 use Rattle.bits.proofs.Bits.{same-eq}
-use Rattle.trie.specs.Trie.{Trie, leaf, node, over}
+use Rattle.trie.specs.Trie.{Trie, leaf, node, outranks}
 use Rattle.trie.specs.Update.{down, insert, growsOn, grows}
 use Rattle.trie.proofs.Insert.{lower-not-nil}
 use Rattle.routes.specs.Routes.{ValidRoute}
 use Rattle.routes.specs.declared.Route.{Route}
 use Rattle.table_rules.specs.Rows.{Mem, Layout, Stores, child, routeOf, leafRow, withRoute, withChild}
 use Rattle.table_rules.specs.Holds.{Names, RowHolds, Holds, hit, times}
-use Rattle.table_rules.specs.Announce.{isSame, isOver, pick, sinkBy, sink}
+use Rattle.table_rules.specs.Announce.{isSame, outranksRow, sinkBy, sink}
 use Rattle.table_rules.specs.declared.Row.{Row}
 use Rattle.table_rules.proofs.Paths.{At, at-bit, at-down, at-last, at-same, at-over}
 use Rattle.table_rules.proofs.Holds.{hit-same, hit-other, row-at, Below, below-root, below-child, times-child}
@@ -39,21 +39,21 @@ pub route-row : (w : ℕ) (M : Mem) (path : Bits) (r : ℕ) (s : Bits) (p : ℕ)
     → RouteAt w path (routeOf (M r)) s
 route-row w M path r s p c h = record { valid = h .valid; is = h .bits }
 
-pub route-pick : (w : ℕ) (path : Bits) (o : Bool) (q x : Route) (y s : Bits) → RouteAt w path q y → RouteAt w path x s
-    → RouteAt w path (pick o q x) (cond o y s)
-route-pick w path true q x y s h k = h
-route-pick w path false q x y s h k = k
+pub route-if : (w : ℕ) (path : Bits) (o : Bool) (q x : Route) (y s : Bits) → RouteAt w path q y → RouteAt w path x s
+    → RouteAt w path (cond o q x) (cond o y s)
+route-if w path true q x y s h k = h
+route-if w path false q x y s h k = k
 
 -- of two prefixes the one to hold the place stays, and the other goes down
-insert-split : (y s : Bits) (q x : Route) (c : Bool → Trie) (o : Bool) → same y s ≡ false → over y s ≡ o
+insert-split : (y s : Bits) (q x : Route) (c : Bool → Trie) (o : Bool) → same y s ≡ false → outranks y s ≡ o
     → insert y (q .port) (node s (x .port) c)
-    ≡ node (cond o y s) (pick o q x .port) (λ d. down d (cond o s y) (c d) (λ z. insert z (pick o x q .port) (c d)))
+    ≡ node (cond o y s) (cond o q x .port) (λ d. down d (cond o s y) (c d) (λ z. insert z (cond o x q .port) (c d)))
 insert-split y s q x c true e f = rw (e, f)
 insert-split y s q x c false e f = rw (e, f)
 
 insert-named : (c : ℕ) (y : Bits) (p : ℕ) (t : Trie) → 0 < c → Names c (insert y p t)
 insert-named c y p leaf h = h
-insert-named c y p (node s o k) h = go (same y s) (over y s)
+insert-named c y p (node s o k) h = go (same y s) (outranks y s)
   where
     go : (a b : Bool)
         → Names c
@@ -153,19 +153,19 @@ module _ {S : Type 0} (L : Layout S) (w : ℕ) (st : Stores w L) where
         }
 
     module _ (k : ℕ) (deep : length path + suc k ≡ w) (ih : (b : Bool) → Grows (c b)) (e : same y s ≡ false)
-        (o : Bool) (v : over y s ≡ o) (b : Bool) (z : Bits) (goes : cond o s y ≡ b ∷ z) where
+        (o : Bool) (v : outranks y s ≡ o) (b : Bool) (z : Bits) (goes : cond o s y ≡ b ∷ z) where
       -- U holds the place, and D goes down on side b
       abbrev U : Route
-      U = pick o q (routeOf x)
+      U = cond o q (routeOf x)
 
       abbrev D : Route
-      D = pick o (routeOf x) q
+      D = cond o (routeOf x) q
 
       upper : RouteAt w path U (cond o y s)
-      upper = route-pick w path o q (routeOf x) y s at (route-row w (L .get m) path r s p c h)
+      upper = route-if w path o q (routeOf x) y s at (route-row w (L .get m) path r s p c h)
 
       lower : RouteAt w path D (b ∷ z)
-      lower = subst (RouteAt w path D) goes (route-pick w path o (routeOf x) q s y (route-row w (L .get m) path r s p c h) at)
+      lower = subst (RouteAt w path D) goes (route-if w path o (routeOf x) q s y (route-row w (L .get m) path r s p c h) at)
 
       lower-bit : bitBefore (D .value) k ≡ b
       lower-bit = at-bit w path (D .value) (D .len) k b z (at-of w path D (b ∷ z) lower) (sym deep)
@@ -321,10 +321,10 @@ module _ {S : Type 0} (L : Layout S) (w : ℕ) (st : Stores w L) where
         x = L .get m r
 
         D : Bool → Route
-        D o = pick o (routeOf x) q
+        D o = cond o (routeOf x) q
 
         U : Bool → Route
-        U o = pick o q (routeOf x)
+        U o = cond o q (routeOf x)
 
         is-same : same y s ≡ isSame q x
         is-same = at-same w path (q .value) (q .len) (x .value) (x .len) y s (at-of w path q y at) (row-at w (L .get m) path r s p c h)
@@ -332,28 +332,28 @@ module _ {S : Type 0} (L : Layout S) (w : ℕ) (st : Stores w L) where
         depth : w - suc k ≡ length path
         depth = omega arith
 
-        is-over : over y s ≡ isOver (w - suc k) q x
-        is-over =
+        outranks-row : outranks y s ≡ outranksRow (w - suc k) q x
+        outranks-row =
             at-over w path (q .value) (q .len) (x .value) (x .len) y s (at-of w path q y at) (row-at w (L .get m) path r s p c h)
-            ∙ ap (λ (d : ℕ). isOver d q x) (sym depth)
+            ∙ ap (λ (d : ℕ). outranksRow d q x) (sym depth)
 
         pick-step : Bool → S
         pick-step o = sinkBy L w m n r (U o) (D o) (bitBefore (D o .value) k) (λ m′ j. sink L w k m′ n j (D o))
 
-        on : same y s ≡ false → (o : Bool) → over y s ≡ o → (d : Bits) → cond o s y ≡ d → (d ≡ [] → ⊥)
+        on : same y s ≡ false → (o : Bool) → outranks y s ≡ o → (d : Bits) → cond o s y ≡ d → (d ≡ [] → ⊥)
             → Grown m (pick-step o) path n r (node s p c) y (q .port)
         on e o v [] f ne = absurd (ne refl)
         on e o v (b ∷ z) f ne = grown-down s p c path m n r q y at h once low pos lies fits k deep ih e o v b z f
 
         by : (a : Bool) → same y s ≡ a
-            → Grown m (cond (isSame q x) (L .put m r (withRoute x q)) (pick-step (isOver (w - suc k) q x))) path n r (node s p c) y (q .port)
+            → Grown m (cond (isSame q x) (L .put m r (withRoute x q)) (pick-step (outranksRow (w - suc k) q x))) path n r (node s p c) y (q .port)
         by true e =
             subst (λ (j : S). Grown m j path n r (node s p c) y (q .port)) (sym (rw (sym is-same ∙ e)))
             (grown-same s p c path m n r q y at h once low pos lies fits e)
         by false e =
             subst (λ (j : S). Grown m j path n r (node s p c) y (q .port)) (sym (rw (sym is-same ∙ e)))
-            (subst (λ (o : Bool). Grown m (pick-step o) path n r (node s p c) y (q .port)) is-over
-            (on e (over y s) refl (cond (over y s) s y) refl (lower-not-nil y s e)))
+            (subst (λ (o : Bool). Grown m (pick-step o) path n r (node s p c) y (q .port)) outranks-row
+            (on e (outranks y s) refl (cond (outranks y s) s y) refl (lower-not-nil y s e)))
 
   grow : (t : Trie) → Grows t
   grow leaf = tt

@@ -22,7 +22,7 @@ use Rattle.table_rules.proofs.Holds.{row-at, Below, below-child}
 use Rattle.table_rules.specs.Walk.{seenBelow}
 use Rattle.table_rules.proofs.Right.{not-wrong}
 use Rattle.table_rules.proofs.Ordered.{leads, bestBelow, ordered}
-use Rattle.table_rules.proofs.Reached.{size}
+use Rattle.table_rules.proofs.Reach.{size}
 use Rattle.table_rules.proofs.Place.{pathFirst, path-on, holds-right, holds-deep}
 use Rattle.table_rules.proofs.Walk.{beyond, seen-at-by}
 
@@ -59,14 +59,14 @@ module _ (w : ℕ) where
     Over s p x m o =
         ((leads s x ≡ true) × (o .wrong ≡ false) × (o .rows ≡ m) × Led path (ownBest s p x) o) ⊎ ((leads s x ≡ false) × (o .wrong ≡ true))
 
-    over-seen : (x : Row) (s : Bits) (p : ℕ) (t : Best) (m : ℕ) (f : Seen) → At w path (x .value) (x .len) s → 0 < m → Led path t f
+    outranks-seen : (x : Row) (s : Bits) (p : ℕ) (t : Best) (m : ℕ) (f : Seen) → At w path (x .value) (x .len) s → 0 < m → Led path t f
         → Over s p t m (seenOver x (length path) m f)
-    over-seen x [] p none m f at pos h = rw (eq-eqb (f .rows) 0 h) (inl (refl, refl, refl, (pos, at)))
-    over-seen x (b ∷ s) p none m f at pos h = rw (eq-eqb (f .rows) 0 h) (inl (refl, refl, refl, (pos, at)))
-    over-seen x [] p (some q o) m f at pos h =
+    outranks-seen x [] p none m f at pos h = rw (eq-eqb (f .rows) 0 h) (inl (refl, refl, refl, (pos, at)))
+    outranks-seen x (b ∷ s) p none m f at pos h = rw (eq-eqb (f .rows) 0 h) (inl (refl, refl, refl, (pos, at)))
+    outranks-seen x [] p (some q o) m f at pos h =
         rw (ne-eqb (f .rows) 0 (λ z. omega (arith, h .0)), sym (at-priority w path (x .value) (x .len) [] at))
         (inl (refl, refl, refl, (pos, h .1)))
-    over-seen x (b ∷ s) p (some q o) m f at pos h =
+    outranks-seen x (b ∷ s) p (some q o) m f at pos h =
         rw (ne-eqb (f .rows) 0 (λ z. omega (arith, h .0)), sym (at-priority w path (x .value) (x .len) (b ∷ s) at))
         (go (aheadOf (x .value) (x .len) (f .value) (f .len)) (at-ahead w path (x .value) (x .len) (f .value) (f .len) (b ∷ s) q at (h .1)))
       where
@@ -104,7 +104,7 @@ module _ (w : ℕ) where
     seen-both : (l r : Seen) → Agrees (on false) (c false) l → Agrees (on true) (c true) r → SeenAs path (node s p c) (seenJoin x (length path) l r)
     seen-both l r hl hr =
         join-as l r false (rw (hl .fine, hr .fine))
-        (go (over-seen path x s p (bestBelow c) (m l r) (firstSeen l r) at (omega arith)
+        (go (outranks-seen path x s p (bestBelow c) (m l r) (firstSeen l r) at (omega arith)
         (led-first path (lift false (best (c false))) (lift true (best (c true))) l r
         (led-lift path false (best (c false)) l (hl .first)) (led-lift path true (best (c true)) r (hr .first)))))
       where

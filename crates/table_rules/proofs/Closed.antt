@@ -14,7 +14,7 @@ use Rattle.trie.specs.Trie.{Trie, leaf, node}
 use Rattle.routes.specs.declared.Route.{Route}
 use Rattle.table_rules.specs.Rows.{Mem, Layout, Stores, child, routeOf, withRoute, withChild, leafRow}
 use Rattle.table_rules.specs.Holds.{Holds, times, Placed}
-use Rattle.table_rules.specs.Announce.{isSame, isOver, pick, sink, announced}
+use Rattle.table_rules.specs.Announce.{isSame, outranksRow, sink, announced}
 use Rattle.table_rules.specs.Withdraw.{isLast, bestBelow, zeroRow, Cut, cut, relink, closeGap, withdrawn}
 use Rattle.table_rules.specs.declared.Row.{Row}
 use Rattle.table_rules.proofs.Holds.{Below, below-child, below-once, child-lt}
@@ -31,9 +31,9 @@ module _ {S : Type 0} (L : Layout S) (v : ℕ) (st : Stores v L) where
         go true = st .room-put m r (withRoute (L .get m r) q)
         go false = refl
     sink-room (suc k) m n r q =
-        let o : Bool = isOver (w - suc k) q (L .get m r) in
-        let U : Route = pick o q (routeOf (L .get m r)) in
-        let D : Route = pick o (routeOf (L .get m r)) q in
+        let o : Bool = outranksRow (w - suc k) q (L .get m r) in
+        let U : Route = cond o q (routeOf (L .get m r)) in
+        let D : Route = cond o (routeOf (L .get m r)) q in
         let b : Bool = bitBefore (D .value) k in
         let c : ℕ = child (L .get m r) b in
         let Y : Row = withRoute (L .get m r) U in
@@ -73,8 +73,8 @@ module _ {S : Type 0} (L : Layout S) (v : ℕ) (st : Stores v L) where
   cut-room w (suc k) m r q =
       let a : Bool = isSame q (L .get m r) in
       let z : Route = bestBelow w (L .get m) k (L .get m r) in
-      let D : Route = pick a z q in
-      let H : Route = pick a z (routeOf (L .get m r)) in
+      let D : Route = cond a z q in
+      let H : Route = cond a z (routeOf (L .get m r)) in
       let b : Bool = bitBefore (D .value) k in
       let c : ℕ = child (L .get m r) b in
       let Y : Row = withRoute (L .get m r) H in

@@ -23,10 +23,10 @@ use Rattle.table_rules.proofs.Holds.{Below, below-once}
 use Rattle.table_rules.specs.SetOf.{setOf}
 use Rattle.table_rules.proofs.Ordered.{ordered, ordered→rule, rule→ordered}
 use Rattle.lists.proofs.Sum.{sum-ones, sum-full}
-use Rattle.table_rules.proofs.Reached.{reached, reached-once, reached-same, reached-all, size, sum-times}
+use Rattle.table_rules.proofs.Reach.{reached, reached-once, reached-same, reached-all, size, sum-times}
 use Rattle.table_rules.proofs.Place.{pathFirst}
 use Rattle.table_rules.proofs.CheckWalk.{SeenAs, seen-is}
-use Rattle.table_rules.proofs.Built.{Root, built}
+use Rattle.table_rules.proofs.GoodParts.{Root, built}
 
 -- each row below n once, and no other
 module _ (M : Mem) (n : ℕ) (t : Trie) (once : (i : ℕ) → times M 0 t i ≡ cond (ltb i n) 1 0) where

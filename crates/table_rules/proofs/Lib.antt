@@ -10,13 +10,13 @@ pub mod Move
 pub mod Table
 pub mod Closed
 pub mod Ascending
-pub mod Built
 pub mod Good
-pub mod Looked
 pub mod Ordered
 pub mod Place
-pub mod Reached
 pub mod Right
-pub mod Saved
 pub mod Walk
 pub mod CheckWalk
+pub mod SavedLookup
+pub mod Save
+pub mod Reach
+pub mod GoodParts

@@ -12,10 +12,10 @@ use Rattle.bits.specs.Bits.{Bits, same}
 use Rattle.bits.proofs.Bits.{same-refl, same-eq}
 use Rattle.lists.proofs.Tests.{way, both}
 use Rattle.trie.specs.Routes.{Routes, upd, side}
-use Rattle.trie.specs.Trie.{Trie, leaf, node, IsTrie, Top, ahead, over}
+use Rattle.trie.specs.Trie.{Trie, leaf, node, IsTrie, Top, ahead, outranks}
 use Rattle.trie.specs.Update.{Best, none, some, below, best}
 use Rattle.trie.proofs.Routes.{upd-same, upd-other, upd-again, upd-none, none-or-some}
-use Rattle.trie.proofs.Order.{ahead-up, ahead-same, over-irrefl, over-behind}
+use Rattle.trie.proofs.Order.{ahead-up, ahead-same, outranks-irrefl, outranks-behind}
 use Rattle.trie.proofs.Insert.{carry}
 use Rattle.trie.proofs.Remove.{own-out, IsBest, below-is, best-is}
 use Rattle.table_rules.specs.SetOf.{joined, setOf}
@@ -62,11 +62,11 @@ module _ (J : Routes) (nil : J [] ≡ 0) where
   leads-out (b ∷ s) (some q o) h e =
       ⊎-elim (λ z. z) (λ k. absurd (true≢false (sym e ∙ h .first (b ∷ s) k))) (none-or-some (J (b ∷ s)))
 
-  leads-top : (s : Bits) (x : Best) → IsBest x J → leads s x ≡ true → (q : Bits) → 0 < J q → over q s ≡ false
+  leads-top : (s : Bits) (x : Best) → IsBest x J → leads s x ≡ true → (q : Bits) → 0 < J q → outranks q s ≡ false
   leads-top [] x h e q k = refl
   leads-top (b ∷ s) none h e q k = absurd (omega (arith, h q))
   leads-top (b ∷ s) (some t o) h e q k =
-      over-behind q (b ∷ s) (λ z. omega (arith, ap J z)) (ahead-up q (b ∷ s) t (h .first q k) e)
+      outranks-behind q (b ∷ s) (λ z. omega (arith, ap J z)) (ahead-up q (b ∷ s) t (h .first q k) e)
 
 abbrev RuleOf : Trie → Type 0
 RuleOf t = ordered t ≡ true → IsTrie t (setOf t)
@@ -97,8 +97,8 @@ rule-node s p c ih e = record {
     top : Top (upd J s p) s
     top q k = go (way (same q s))
       where
-        go : (same q s ≡ true) ⊎ (same q s ≡ false) → over q s ≡ false
-        go (inl t) = rw (same-eq q s t) (over-irrefl s)
+        go : (same q s ≡ true) ⊎ (same q s ≡ false) → outranks q s ≡ false
+        go (inl t) = rw (same-eq q s t) (outranks-irrefl s)
         go (inr t) = leads-top J refl s (bestBelow c) is (o .first) q (rw (upd-other J s q p t) at k)
 
 pub ordered→rule : (t : Trie) → RuleOf t

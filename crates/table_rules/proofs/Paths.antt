@@ -15,8 +15,8 @@ use Rattle.bits.specs.Prefix.{span, head, Valid, matches, first}
 use Rattle.bits.proofs.Bits.{same-refl, same-eq, length-take-bits, length-bits, value-prefix-bits, value-append, begins-append, bit-at, matches-begins}
 use Rattle.bits.proofs.Prefix.{span-pos, first-valid}
 use Rattle.lists.proofs.Tests.{way, both, test-eq, eqb-same, ltb-same}
-use Rattle.trie.specs.Trie.{ahead, over, isPriority}
-use Rattle.table_rules.specs.Order.{samePrefix, aheadOf, goesOver}
+use Rattle.trie.specs.Trie.{ahead, outranks, isPriority}
+use Rattle.table_rules.specs.Order.{samePrefix, aheadOf, outranksAt}
 
 -- the prefix of value v and length l goes on from the path with the bits s
 pub record At (w : ℕ) (path : Bits) (v l : ℕ) (s : Bits) : Type 0 where
@@ -146,15 +146,15 @@ module _ (w : ℕ) (path : Bits) where
             strict h f = let g : (value s′ ≤ value s → ⊥) = (λ k. let z : v′ ≤ v = f k in omega arith) in omega arith
         equal (inr t) = ap (λ (b : Bool). b && ltb (value s) (value s′)) t ∙ sym (ap (λ (b : Bool). b && ltb v v′) (sym len ∙ t))
 
-    pub at-over : over s s′ ≡ goesOver (length path) v l v′ l′
+    pub at-over : outranks s s′ ≡ outranksAt (length path) v l v′ l′
     at-over =
-        over-tests s s′
+        outranks-tests s s′
         ∙ ap₂ (λ (n b : Bool). n && b) (at-priority v′ l′ s′ at′) (ap₂ (λ (n b : Bool). not n || b) (at-priority v l s at) at-ahead)
       where
-        over-tests : (a c : Bits) → over a c ≡ (isPriority c && (not (isPriority a) || ahead a c))
-        over-tests a [] = refl
-        over-tests [] (x ∷ c) = refl
-        over-tests (y ∷ a) (x ∷ c) = refl
+        outranks-tests : (a c : Bits) → outranks a c ≡ (isPriority c && (not (isPriority a) || ahead a c))
+        outranks-tests a [] = refl
+        outranks-tests [] (x ∷ c) = refl
+        outranks-tests (y ∷ a) (x ∷ c) = refl
 
   -- an address at the path
   module _ (v l a : ℕ) (s rest : Bits) (at : At w path v l s) (fits : a < 2 ^ w) (is : bits w a ≡ path ++ rest) where

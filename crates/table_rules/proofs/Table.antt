@@ -14,7 +14,7 @@ use Rattle.bits.specs.Prefix.{Valid}
 use Rattle.bits.proofs.Bits.{same-eq, same-refl}
 use Rattle.lists.proofs.Tests.{way, both}
 use Rattle.trie.specs.Routes.{Routes, upd, side}
-use Rattle.trie.specs.Trie.{Trie, leaf, node, IsTrie, over}
+use Rattle.trie.specs.Trie.{Trie, leaf, node, IsTrie, outranks}
 use Rattle.trie.specs.Update.{insert, grows, remove}
 use Rattle.trie.proofs.Routes.{upd-same, upd-other}
 use Rattle.trie.proofs.Order.{under-not-nil}
@@ -25,7 +25,7 @@ use Rattle.routes.specs.Routes.{ValidRoute}
 use Rattle.routes.specs.declared.Route.{Route}
 use Rattle.table_rules.specs.Rows.{Mem, Layout, Stores, child, routeOf, leafRow}
 use Rattle.table_rules.specs.Holds.{Names, RowHolds, Holds, hit, times, Placed}
-use Rattle.table_rules.specs.Announce.{isSame, isOver, heldAt, isHeld, sink, announced}
+use Rattle.table_rules.specs.Announce.{isSame, outranksRow, heldAt, isHeld, sink, announced}
 use Rattle.table_rules.specs.Withdraw.{isLast, zeroRow, Cut, cut, relink, moveRow, closeGap, withdrawn}
 use Rattle.table_rules.specs.Theorems.{HeldIs, Announced, AnnouncedIs, Withdrawn, WithdrawnIs}
 use Rattle.table_rules.specs.declared.Row.{Row}
@@ -103,10 +103,10 @@ module _ (w : ℕ) (M : Mem) where
     not-here e = sym (le-ltb 0 (T y) (omega arith))
 
     module _ (k : ℕ) (deep : length path + suc k ≡ w) (e : same y s ≡ false) where
-      is-over : over y s ≡ isOver (w - suc k) q x
-      is-over =
+      outranks-row : outranks y s ≡ outranksRow (w - suc k) q x
+      outranks-row =
           let z : w - suc k ≡ length path = omega arith in
-          at-over w path (q .value) (q .len) (x .value) (x .len) y s at (row-at w M path r s p c h) ∙ ap (λ (d : ℕ). isOver d q x) (sym z)
+          at-over w path (q .value) (q .len) (x .value) (x .len) y s at (row-at w M path r s p c h) ∙ ap (λ (d : ℕ). outranksRow d q x) (sym z)
 
       abbrev onSide : Bool → Bool
       onSide b = cond (eqb (child x b) 0) false (heldAt w M k (child x b) q)
@@ -133,7 +133,7 @@ module _ (w : ℕ) (M : Mem) where
               (subst (λ (t : Trie). IsTrie t (side b (upd T s 0))) cb (rule .rest b))
               ∙ ap (ltb 0) z)
 
-      found-below : (o : Bool) → over y s ≡ o → cond o false (onSide (bitBefore (q .value) k)) ≡ ltb 0 (T y)
+      found-below : (o : Bool) → outranks y s ≡ o → cond o false (onSide (bitBefore (q .value) k)) ≡ ltb 0 (T y)
       found-below true f = not-here (top-none T s (rule .top) y f)
       found-below false f = go y refl
         where
@@ -152,12 +152,12 @@ module _ (w : ℕ) (M : Mem) where
       below : Bool → Bool
       below o = cond o false (cond (eqb (child (M r) (bitBefore (q .value) k)) 0) false (heldAt w M k (child (M r) (bitBefore (q .value) k)) q))
 
-      by : (a : Bool) → same y s ≡ a → cond (isSame q (M r)) true (below (isOver (w - suc k) q (M r))) ≡ ltb 0 (T y)
+      by : (a : Bool) → same y s ≡ a → cond (isSame q (M r)) true (below (outranksRow (w - suc k) q (M r))) ≡ ltb 0 (T y)
       by true e = rw (sym (is-same s p c ih path r q y T at h rule) ∙ e) (found-here s p c ih path r q y T at h rule e)
       by false e =
           rw (sym (is-same s p c ih path r q y T at h rule) ∙ e)
-          (ap below (sym (is-over s p c ih path r q y T at h rule k deep e))
-          ∙ found-below s p c ih path r q y T at h rule k deep e (over y s) refl)
+          (ap below (sym (outranks-row s p c ih path r q y T at h rule k deep e))
+          ∙ found-below s p c ih path r q y T at h rule k deep e (outranks y s) refl)
 
   finds : (t : Trie) → FindsAt t
   finds leaf = tt

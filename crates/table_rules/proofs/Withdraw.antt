@@ -12,7 +12,7 @@ use Rattle.bits.specs.Bits.{Bits, prefixBits, same, bitBefore}
 use Rattle.bits.proofs.Bits.{same-eq, same-refl}
 use Rattle.lists.proofs.Tests.{way, both}
 use Rattle.trie.specs.Routes.{Routes, upd, side}
-use Rattle.trie.specs.Trie.{Trie, leaf, node, IsTrie, over}
+use Rattle.trie.specs.Trie.{Trie, leaf, node, IsTrie, outranks}
 use Rattle.trie.specs.Update.{Best, none, some, lift, firstOf, down, below, best, refill, remove}
 use Rattle.trie.proofs.Routes.{upd-other}
 use Rattle.trie.proofs.Order.{under-not-nil}
@@ -21,7 +21,7 @@ use Rattle.routes.specs.Routes.{ValidRoute}
 use Rattle.routes.specs.declared.Route.{Route}
 use Rattle.table_rules.specs.Rows.{Mem, Layout, Stores, child, routeOf, withRoute, withChild}
 use Rattle.table_rules.specs.Holds.{Names, RowHolds, Holds, hit, times}
-use Rattle.table_rules.specs.Announce.{isSame, pick}
+use Rattle.table_rules.specs.Announce.{isSame}
 use Rattle.table_rules.specs.Withdraw.{bestBelow, isLast, Cut, cutBy, cut}
 use Rattle.table_rules.specs.declared.Row.{Row}
 use Rattle.table_rules.proofs.Paths.{At, at-bit, at-down, at-last, at-same}
@@ -318,10 +318,10 @@ module _ {S : Type 0} (L : Layout S) (w : ℕ) (st : Stores w L) where
         z = bestBelow w (L .get m) k x
 
         taken : Bool → Route
-        taken a = pick a z q
+        taken a = cond a z q
 
         holder : Bool → Route
-        holder a = pick a z (routeOf x)
+        holder a = cond a z (routeOf x)
 
         stepped : Bool → Cut S
         stepped a = cutBy L w m r (holder a) (taken a) (bitBefore (taken a .value) k) (λ m′ j. cut L w k m′ j (taken a))

@@ -5,7 +5,7 @@ use Prim.Native.Nat.{ℕ, zero, suc, _-_}
 use lib.Dec.{eqb}
 use Rattle.routes.specs.declared.Route.{Route}
 use Rattle.table_rules.specs.Rows.{Mem, Layout, child, routeOf, leafRow, withRoute, withChild}
-use Rattle.table_rules.specs.Order.{samePrefix, goesOver}
+use Rattle.table_rules.specs.Order.{samePrefix, outranksAt}
 use Rattle.bits.specs.Bits.{bitBefore}
 use Rattle.table_rules.specs.declared.Row.{Row}
 
@@ -14,20 +14,15 @@ abbrev pub isSame : Route → Row → Bool
 isSame q x = samePrefix (q .value) (q .len) (x .value) (x .len)
 
 -- the route is to hold the row's place, at a depth
-abbrev pub isOver : ℕ → Route → Row → Bool
-isOver depth q x = goesOver depth (q .value) (q .len) (x .value) (x .len)
-
--- the first where the test holds, else the second
-abbrev pub pick : Bool → Route → Route → Route
-pick true a b = a
-pick false a b = b
+abbrev pub outranksRow : ℕ → Route → Row → Bool
+outranksRow depth q x = outranksAt depth (q .value) (q .len) (x .value) (x .len)
 
 -- Whether the rows from r on hold the route's prefix, with k bits below r. A place that it would take itself has it nowhere below.
 unfoldable pub heldAt : ℕ → Mem → ℕ → ℕ → Route → Bool
 heldAt w M zero r q = isSame q (M r)
 heldAt w M (suc k) r q =
     cond (isSame q (M r)) true
-    (cond (isOver (w - suc k) q (M r)) false
+    (cond (outranksRow (w - suc k) q (M r)) false
     (cond (eqb (child (M r) (bitBefore (q .value) k)) 0) false (heldAt w M k (child (M r) (bitBefore (q .value) k)) q)))
 
 -- whether a table of n routes holds the route's prefix
@@ -46,9 +41,9 @@ module _ {S : Type 0} (L : Layout S) (w : ℕ) where
   unfoldable pub sink : ℕ → S → ℕ → ℕ → Route → S
   sink zero s n r q = cond (isSame q (L .get s r)) (L .put s r (withRoute (L .get s r) q)) s
   sink (suc k) s n r q =
-      let over : Bool = isOver (w - suc k) q (L .get s r) in
-      let upper : Route = pick over q (routeOf (L .get s r)) in
-      let lower : Route = pick over (routeOf (L .get s r)) q in
+      let over : Bool = outranksRow (w - suc k) q (L .get s r) in
+      let upper : Route = cond over q (routeOf (L .get s r)) in
+      let lower : Route = cond over (routeOf (L .get s r)) q in
       cond (isSame q (L .get s r)) (L .put s r (withRoute (L .get s r) q))
       (sinkBy s n r upper lower (bitBefore (lower .value) k) (λ s′ c. sink k s′ n c lower))
 

@@ -13,5 +13,5 @@ abbrev pub aheadOf : ℕ → ℕ → ℕ → ℕ → Bool
 aheadOf v l v′ l′ = ltb l′ l || (eqb l′ l && ltb v v′)
 
 -- (v, l) is to hold a place at this depth rather than (v′, l′): the place's own prefix first, then the one ahead
-abbrev pub goesOver : ℕ → ℕ → ℕ → ℕ → ℕ → Bool
-goesOver depth v l v′ l′ = ltb depth l′ && (not (ltb depth l) || aheadOf v l v′ l′)
+abbrev pub outranksAt : ℕ → ℕ → ℕ → ℕ → ℕ → Bool
+outranksAt depth v l v′ l′ = ltb depth l′ && (not (ltb depth l) || aheadOf v l v′ l′)

@@ -9,7 +9,7 @@ use Rattle.routes.specs.declared.Route.{Route}
 use Rattle.table_rules.specs.Rows.{Mem, Layout, child, routeOf, leafRow, withRoute, withChild}
 use Rattle.table_rules.specs.Order.{aheadOf}
 use Rattle.bits.specs.Bits.{bitBefore}
-use Rattle.table_rules.specs.Announce.{isSame, pick}
+use Rattle.table_rules.specs.Announce.{isSame}
 use Rattle.table_rules.specs.declared.Row.{Row}
 
 -- no route: "Port 0 means no route and is never a route's port."
@@ -68,8 +68,8 @@ module _ {S : Type 0} (L : Layout S) (w : ℕ) where
   unfoldable pub cut : ℕ → S → ℕ → Route → Cut S
   cut zero s r q = record { rows = s; freed = r }
   cut (suc k) s r q =
-      let taken : Route = pick (isSame q (L .get s r)) (bestBelow w (L .get s) k (L .get s r)) q in
-      let holder : Route = pick (isSame q (L .get s r)) (bestBelow w (L .get s) k (L .get s r)) (routeOf (L .get s r)) in
+      let taken : Route = cond (isSame q (L .get s r)) (bestBelow w (L .get s) k (L .get s r)) q in
+      let holder : Route = cond (isSame q (L .get s r)) (bestBelow w (L .get s) k (L .get s r)) (routeOf (L .get s r)) in
       cutBy s r holder taken (bitBefore (taken .value) k) (λ s′ c. cut k s′ c taken)
 
   -- the parent of row `last`, on the way of its value v, now names row `freed`

@@ -1,3 +1,3 @@
 -- Laws of the run listing of a table.
-pub mod Tabled
 pub mod Unique
+pub mod OfTable

@@ -1,4 +1,4 @@
 -- Laws that the functions of saving cite.
-pub mod Sinking
-pub mod Writing
 pub mod Unique
+pub mod Insertion
+pub mod SaveWalk

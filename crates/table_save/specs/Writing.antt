@@ -5,14 +5,14 @@ use mathlib.Core.List.{List}
 use Prim.Native.Nat.{ℕ, zero, suc, _+_, _*_}
 use lib.ListN.{length}
 use lib.Seq.{sets}
-use Rattle.promise.specs.Over.{put3}
+use Rattle.promise.specs.Over.{storeThree}
 use Rattle.bits.specs.Prefix.{precedes}
 use Rattle.routes.specs.Routes.{routeAt, wordsOf}
 use Rattle.routes.specs.declared.Route.{Route}
 
 -- a list with route i made q
 abbrev pub putRoute : List ℕ → ℕ → Route → List ℕ
-putRoute words i q = put3 words (i * 3) (q .value) (q .len) (q .port)
+putRoute words i q = storeThree words (i * 3) (q .value) (q .len) (q .port)
 
 abbrev pub standsBefore : Route → Route → Bool
 standsBefore a b = precedes (a .value) (a .len) (b .value) (b .len)

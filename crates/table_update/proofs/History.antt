@@ -14,7 +14,7 @@ use Rattle.bits.specs.Prefix.{span, clear, Valid}
 use Rattle.lists.proofs.Tests.{way, both}
 use Rattle.trie.specs.Routes.{Routes, noRoutes, upd}
 use Rattle.trie.proofs.Routes.{none-or-some}
-use Rattle.routes.specs.Refusals.{mostRoutes, lastPort as portLast, noRoom, notHeld, notInOrder, accepted, unless}
+use Rattle.routes.specs.Refusals.{mostRoutes, lastPort, noRoom, notHeld, notInOrder, accepted, unless}
 use Rattle.routes.specs.Routes.{ValidRoute}
 use Rattle.routes.specs.Check.{isPort, prefixFault, routeFault}
 use Rattle.routes.specs.declared.Answer.{Answer}
@@ -30,10 +30,10 @@ use Rattle.table_rules.proofs.Table.{held-is, announced-is, withdrawn-is}
 use Rattle.table_rules.proofs.Closed.{announced-room, withdrawn-room}
 use Rattle.table_rules.proofs.Good.{check-is-good, placed→held}
 use Rattle.table_update.specs.Calls.{keeping, leaves, announcedWords, announceIn, announceInto, prefixOnly, withdrawIn, withdrawInto}
-use Rattle.table_update.specs.History.{Call, announcing, withdrawing, Table, outcomeOf, after, isAccepted, ran, prefixOf, portOf, lastPort, Fits, AllFit}
+use Rattle.table_update.specs.History.{Call, announcing, withdrawing, Table, outcomeOf, after, isAccepted, ran, callPrefix, callPort, portAfter, Fits, AllFit}
 use Rattle.table_update.specs.Theorems.{CallIs, RefusedKeeps, HistoryIs}
 use Rattle.table_update.proofs.Arguments.{prefix-valid, route-valid}
-use Rattle.table_update.proofs.Filling.{placed-none}
+use Rattle.table_update.proofs.FillLoop.{placed-none}
 
 -- what became of a table, by whether the call was accepted
 
@@ -139,23 +139,23 @@ module _ (L : Layout (List ℕ)) (w : ℕ) (st : Stores w L) (ws : List ℕ) (n 
 
 pub call-is : (L : Layout (List ℕ)) (w : ℕ) → Stores w L → CallIs L w
 call-is L w st t S (announcing q) fits good =
-    announce-into-became L w st (t .words) (t .count) S (upd S (prefixOf w (announcing q)) (q .port)) good q fits refl .good
+    announce-into-became L w st (t .words) (t .count) S (upd S (callPrefix w (announcing q)) (q .port)) good q fits refl .good
 call-is L w st t S (withdrawing value len) fits good =
-    withdraw-into-became L w st (t .words) (t .count) S (upd S (prefixOf w (withdrawing value len)) 0) good value len fits refl .good
+    withdraw-into-became L w st (t .words) (t .count) S (upd S (callPrefix w (withdrawing value len)) 0) good value len fits refl .good
 
 -- the set of a history, one call at a time
 lasts : (L : Layout (List ℕ)) (w : ℕ) (st : Stores w L) (t : Table) (calls : List Call) (S : Routes) → AllFit w calls → GoodFor w (L .room (t .words)) (L .get (t .words)) (t .count) S
-    → GoodFor w (L .room (ran L w t calls .words)) (L .get (ran L w t calls .words)) (ran L w t calls .count) (λ q. lastPort L w t calls q (S q))
-unfolding ran lastPort
+    → GoodFor w (L .room (ran L w t calls .words)) (L .get (ran L w t calls .words)) (ran L w t calls .count) (λ q. portAfter L w t calls q (S q))
+unfolding ran portAfter
 lasts L w st t [] S fit good = good
 lasts L w st t (c ∷ cs) S fit good =
     subst
     (λ (U : Bits → ℕ). GoodFor w (L .room (ran L w (after L w t c) cs .words)) (L .get (ran L w (after L w t c) cs .words)) (ran L w (after L w t c) cs .count)
-    (λ q. lastPort L w (after L w t c) cs q (U q)))
+    (λ q. portAfter L w (after L w t c) cs q (U q)))
     (fun-ext (λ q. go q (isAccepted L w t c)))
-    (lasts L w st (after L w t c) cs (cond (isAccepted L w t c) (upd S (prefixOf w c) (portOf c)) S) (fit .1) (call-is L w st t S c (fit .0) good))
+    (lasts L w st (after L w t c) cs (cond (isAccepted L w t c) (upd S (callPrefix w c) (callPort c)) S) (fit .1) (call-is L w st t S c (fit .0) good))
   where
-    go : (q : Bits) (a : Bool) → cond a (upd S (prefixOf w c) (portOf c)) S q ≡ cond a (cond (same q (prefixOf w c)) (portOf c) (S q)) (S q)
+    go : (q : Bits) (a : Bool) → cond a (upd S (callPrefix w c) (callPort c)) S q ≡ cond a (cond (same q (callPrefix w c)) (callPort c) (S q)) (S q)
     go q true = refl
     go q false = refl
 

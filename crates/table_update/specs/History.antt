@@ -37,20 +37,20 @@ ran L w t [] = t
 ran L w t (c ∷ cs) = ran L w (after L w t c) cs
 
 -- the prefix that a call is about, and the port that it leaves there: 0 after a withdrawal
-abbrev pub prefixOf : ℕ → Call → Bits
-prefixOf w (announcing q) = prefixBits w (q .value) (q .len)
-prefixOf w (withdrawing value len) = prefixBits w value len
+abbrev pub callPrefix : ℕ → Call → Bits
+callPrefix w (announcing q) = prefixBits w (q .value) (q .len)
+callPrefix w (withdrawing value len) = prefixBits w value len
 
-abbrev pub portOf : Call → ℕ
-portOf (announcing q) = q .port
-portOf (withdrawing value len) = 0
+abbrev pub callPort : Call → ℕ
+callPort (announcing q) = q .port
+callPort (withdrawing value len) = 0
 
 -- "for each prefix those of its last accepted call if that was an announcement": the port of a prefix after the calls, where it
 -- was `port` before them
-unfoldable pub lastPort : Layout (List ℕ) → ℕ → Table → List Call → Bits → ℕ → ℕ
-lastPort L w t [] q port = port
-lastPort L w t (c ∷ cs) q port =
-    lastPort L w (after L w t c) cs q (cond (isAccepted L w t c) (cond (same q (prefixOf w c)) (portOf c) port) port)
+unfoldable pub portAfter : Layout (List ℕ) → ℕ → Table → List Call → Bits → ℕ → ℕ
+portAfter L w t [] q port = port
+portAfter L w t (c ∷ cs) q port =
+    portAfter L w (after L w t c) cs q (cond (isAccepted L w t c) (cond (same q (callPrefix w c)) (callPort c) port) port)
 
 -- every value of a call is an address
 abbrev pub Fits : ℕ → Call → Type 0

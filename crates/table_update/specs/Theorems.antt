@@ -15,14 +15,14 @@ use Rattle.table_rules.specs.Holds.{GoodFor}
 use Rattle.table_rules.specs.Lookup.{lookupIn}
 use Rattle.table_rules.specs.declared.Found.{Found}
 use Rattle.table_update.specs.Calls.{announceInto, builtFrom}
-use Rattle.table_update.specs.History.{Call, announcing, Table, after, isAccepted, ran, prefixOf, portOf, lastPort, Fits, AllFit}
+use Rattle.table_update.specs.History.{Call, announcing, Table, after, isAccepted, ran, callPrefix, callPort, portAfter, Fits, AllFit}
 
 -- one call on a table in good order for S: accepted, it is in good order for the changed set; refused, nothing has changed
 abbrev pub CallIs : Layout (List ℕ) → ℕ → Type 0
 CallIs L w =
     (t : Table) (S : Routes) (c : Call) → Fits w c → GoodFor w (L .room (t .words)) (L .get (t .words)) (t .count) S
     → GoodFor w (L .room (after L w t c .words)) (L .get (after L w t c .words)) (after L w t c .count)
-    (cond (isAccepted L w t c) (upd S (prefixOf w c) (portOf c)) S)
+    (cond (isAccepted L w t c) (upd S (callPrefix w c) (callPort c)) S)
 
 -- a refused call leaves every word and the count as they were
 abbrev pub RefusedKeeps : Layout (List ℕ) → ℕ → Type 0
@@ -35,7 +35,7 @@ HistoryIs L w =
     (words : List ℕ) (calls : List Call) → AllFit w calls
     → let t : Table = record { words = words; count = 0 } in
     GoodFor w (L .room (ran L w t calls .words)) (L .get (ran L w t calls .words)) (ran L w t calls .count)
-    (λ q. lastPort L w t calls q 0)
+    (λ q. portAfter L w t calls q 0)
 
 -- a table built from a valid list is in good order for the routes of the list
 abbrev pub BuiltIs : Layout (List ℕ) → ℕ → Type 0

@@ -9,14 +9,14 @@ use lib.ListN.{length}
 use Rattle.bits.specs.Bits.{Bits, begins}
 use Rattle.trie.specs.Routes.{Routes, upd, side}
 use Rattle.trie.specs.Scan.{orElse, scan}
-use Rattle.trie.specs.Trie.{Trie, leaf, node, Holds, IsTrie, Top, over, ends, port, reads}
+use Rattle.trie.specs.Trie.{Trie, leaf, node, NodeRule, IsTrie, Top, outranks, ends, port, reads}
 use Rattle.trie.specs.Theorems.{PortIsScan, ReadsLe}
 use Rattle.trie.proofs.Routes.{none-or-some}
-use Rattle.trie.proofs.Order.{over-longer}
+use Rattle.trie.proofs.Order.{outranks-longer}
 use Rattle.trie.proofs.Scan.{or-pos, or-assoc, or-zero, scan-none, scan-longest, scan-other}
 
 -- what would hold the place rather than the holder is not in S
-pub top-none : (S : Routes) (s : Bits) → Top S s → (q : Bits) → over q s ≡ true → S q ≡ 0
+pub top-none : (S : Routes) (s : Bits) → Top S s → (q : Bits) → outranks q s ≡ true → S q ≡ 0
 top-none S s h q e = ⊎-elim (λ z. z) (λ k. absurd (true≢false (sym e ∙ h q k))) (none-or-some (S q))
 
 module _ (S : Routes) (p best : ℕ) where
@@ -33,7 +33,7 @@ module _ (S : Routes) (p best : ℕ) where
       → cond (m && true) p (port t a (cond m p best)) ≡ orElse (scan S (b ∷ a)) best
   priority x b s t a true e pos own top ih =
       let found : scan S (b ∷ a) ≡ S (x ∷ s) =
-      scan-longest S (x ∷ s) (b ∷ a) (rw own pos) e (λ q m l. top-none S (x ∷ s) top q (over-longer x s q l)) in
+      scan-longest S (x ∷ s) (b ∷ a) (rw own pos) e (λ q m l. top-none S (x ∷ s) top q (outranks-longer x s q l)) in
       sym (ap (λ z. orElse z best) (found ∙ own) ∙ or-pos p best pos)
   priority x b s t a false e pos own top ih =
       let rest : ℕ = scan (side b (upd S (x ∷ s) 0)) a in

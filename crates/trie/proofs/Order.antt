@@ -1,4 +1,4 @@
--- The order of the trie's priority: `ahead` by length, then value, and `over`, which puts the place's own prefix first. Assumes nothing.
+-- The order of the trie's priority: `ahead` by length, then value, and `outranks`, which puts the place's own prefix first. Assumes nothing.
 use mathlib.Core.Path.{_≡_, refl, sym, ap, _∙_}
 use mathlib.Core.Logic.{_⊎_, inl, inr, ⊎-elim}
 use mathlib.Core.Bool.{Bool, true, false, _&&_, _||_, true≢false, false≢true}
@@ -11,7 +11,7 @@ use borrow.Author.Tests.{lt-ltb, le-ltb, eq-eqb, ne-eqb, ltb-true, ltb-false, eq
 use Rattle.bits.specs.Bits.{Bits, value}
 use Rattle.bits.proofs.Bits.{bits-unique}
 use Rattle.lists.proofs.Tests.{way, both, either, test-no}
-use Rattle.trie.specs.Trie.{ahead, over}
+use Rattle.trie.specs.Trie.{ahead, outranks}
 
 -- the order as a statement, and its opposite
 abbrev pub Ahead : Bits → Bits → Type 0
@@ -103,38 +103,38 @@ ahead-same s q e f = go (ahead-not s q e) (ahead-not q s f)
 pub nil-behind : (b : Bool) (s : Bits) → ahead [] (b ∷ s) ≡ false
 nil-behind b s = ahead-no [] (b ∷ s) (inl (omega arith))
 
-pub over-irrefl : (s : Bits) → over s s ≡ false
-over-irrefl [] = refl
-over-irrefl (b ∷ s) = ahead-irrefl (b ∷ s)
+pub outranks-irrefl : (s : Bits) → outranks s s ≡ false
+outranks-irrefl [] = refl
+outranks-irrefl (b ∷ s) = ahead-irrefl (b ∷ s)
 
-pub over-same : (s q : Bits) → over s q ≡ false → over q s ≡ false → s ≡ q
-over-same [] [] e f = refl
-over-same [] (b ∷ q) e f = absurd (true≢false e)
-over-same (b ∷ s) [] e f = absurd (true≢false f)
-over-same (b ∷ s) (c ∷ q) e f = ahead-same (b ∷ s) (c ∷ q) e f
+pub outranks-same : (s q : Bits) → outranks s q ≡ false → outranks q s ≡ false → s ≡ q
+outranks-same [] [] e f = refl
+outranks-same [] (b ∷ q) e f = absurd (true≢false e)
+outranks-same (b ∷ s) [] e f = absurd (true≢false f)
+outranks-same (b ∷ s) (c ∷ q) e f = ahead-same (b ∷ s) (c ∷ q) e f
 
-pub over-up : (x q s : Bits) → over x s ≡ false → over q s ≡ true → over x q ≡ false
-over-up x q [] e f = absurd (false≢true f)
-over-up x [] (b ∷ s) e f = refl
-over-up [] (c ∷ q) (b ∷ s) e f = absurd (true≢false e)
-over-up (d ∷ x) (c ∷ q) (b ∷ s) e f = ahead-up (d ∷ x) (c ∷ q) (b ∷ s) e f
+pub outranks-up : (x q s : Bits) → outranks x s ≡ false → outranks q s ≡ true → outranks x q ≡ false
+outranks-up x q [] e f = absurd (false≢true f)
+outranks-up x [] (b ∷ s) e f = refl
+outranks-up [] (c ∷ q) (b ∷ s) e f = absurd (true≢false e)
+outranks-up (d ∷ x) (c ∷ q) (b ∷ s) e f = ahead-up (d ∷ x) (c ∷ q) (b ∷ s) e f
 
--- a longer one is over any but the place's own
-pub over-longer : (b : Bool) (s q : Bits) → length (b ∷ s) < length q → over q (b ∷ s) ≡ true
-over-longer b s [] h = refl
-over-longer b s (c ∷ q) h = ahead-yes (c ∷ q) (b ∷ s) (inl h)
+-- a longer one is outranks any but the place's own
+pub outranks-longer : (b : Bool) (s q : Bits) → length (b ∷ s) < length q → outranks q (b ∷ s) ≡ true
+outranks-longer b s [] h = refl
+outranks-longer b s (c ∷ q) h = ahead-yes (c ∷ q) (b ∷ s) (inl h)
 
--- what is behind is not over, unless it is the place's own
-pub over-behind : (q s : Bits) → (q ≡ [] → ⊥) → ahead q s ≡ false → over q s ≡ false
-over-behind q [] ne e = refl
-over-behind [] (b ∷ s) ne e = absurd (ne refl)
-over-behind (c ∷ q) (b ∷ s) ne e = e
+-- what is behind is not outranks, unless it is the place's own
+pub outranks-behind : (q s : Bits) → (q ≡ [] → ⊥) → ahead q s ≡ false → outranks q s ≡ false
+outranks-behind q [] ne e = refl
+outranks-behind [] (b ∷ s) ne e = absurd (ne refl)
+outranks-behind (c ∷ q) (b ∷ s) ne e = e
 
 -- the place's own goes no further down
-pub over-not-nil : (q s : Bits) → over q s ≡ true → s ≡ [] → ⊥
-over-not-nil q s e n = false≢true (rw n at e)
+pub outranks-not-nil : (q s : Bits) → outranks q s ≡ true → s ≡ [] → ⊥
+outranks-not-nil q s e n = false≢true (rw n at e)
 
-pub under-not-nil : (q s : Bits) → (q ≡ s → ⊥) → over q s ≡ false → q ≡ [] → ⊥
+pub under-not-nil : (q s : Bits) → (q ≡ s → ⊥) → outranks q s ≡ false → q ≡ [] → ⊥
 under-not-nil [] [] ne f n = ne refl
 under-not-nil [] (b ∷ s) ne f n = true≢false f
 under-not-nil (a ∷ q) s ne f n = omega (arith, ap length n)

@@ -7,11 +7,11 @@ use native.Mathlib.Omega.{arith}
 use Rattle.bits.specs.Bits.{Bits, same}
 use Rattle.bits.proofs.Bits.{same-refl, same-eq}
 use Rattle.trie.specs.Routes.{Routes, upd, side}
-use Rattle.trie.specs.Trie.{Trie, leaf, node, Holds, IsTrie, Top, ahead, over}
+use Rattle.trie.specs.Trie.{Trie, leaf, node, NodeRule, IsTrie, Top, ahead, outranks}
 use Rattle.trie.specs.Update.{down, Best, none, some, lift, firstOf, orOwn, below, best, refill, remove}
 use Rattle.trie.specs.Theorems.{RemoveIs}
 use Rattle.trie.proofs.Routes.{same-sym, upd-other, upd-swap}
-use Rattle.trie.proofs.Order.{ahead-irrefl, ahead-up, ahead-trans-no, ahead-cons, nil-behind, over-behind, under-not-nil}
+use Rattle.trie.proofs.Order.{ahead-irrefl, ahead-up, ahead-trans-no, ahead-cons, nil-behind, outranks-behind, under-not-nil}
 use Rattle.trie.proofs.Lookup.{top-none}
 use Rattle.trie.proofs.Insert.{down-is, top-upd}
 
@@ -131,7 +131,7 @@ refill-is none c S ih e hc h = h
 refill-is (some s p) c S ih e hc h = record {
   some = h .pos;
   own = h .own;
-  top = λ q k. over-behind q s (λ g. omega (arith, ap S g)) (h .first q k);
+  top = λ q k. outranks-behind q s (λ g. omega (arith, ap S g)) (h .first q k);
   rest = λ b.
       down-is b s (c b) (λ y. remove y (c b)) S 0 refl (λ g. omega (arith, ap S g)) (hc b)
       (λ y g. ih b (side b S) y (rw g at live) (hc b));
@@ -155,7 +155,7 @@ module _ (s : Bits) (o : ℕ) (c : Bool → Trie) (ih : (b : Bool) → Kept (c b
   -- another one is taken out further down
   remove-under : same q s ≡ false → IsTrie (node s o (λ b. down b q (c b) (λ x. remove x (c b)))) (upd S q 0)
   remove-under e =
-      let f : over q s ≡ false = h .top q live in
+      let f : outranks q s ≡ false = h .top q live in
       let ne : (q ≡ [] → ⊥) = under-not-nil q s (λ g. true≢false (sym (rw g (same-refl s)) ∙ e)) f in
       let k : 0 < S₀ q = rw (upd-other S s q 0 e) live in
       record {

@@ -7,10 +7,10 @@ use Prim.Native.Nat.{ℕ, _<_}
 use native.Mathlib.Omega.{arith}
 use Rattle.bits.specs.Bits.{Bits}
 use Rattle.trie.specs.Routes.{Route, Routes, noRoutes, upd, side, heldFrom, held, Distinct, Ported}
-use Rattle.trie.specs.Trie.{Trie, leaf, node, Holds, IsTrie}
+use Rattle.trie.specs.Trie.{Trie, leaf, node, NodeRule, IsTrie}
 use Rattle.trie.specs.Update.{insert, insertAll}
 use Rattle.trie.specs.Theorems.{TrieUnique, TrieExists, OrderDoesNotMatter}
-use Rattle.trie.proofs.Order.{over-same}
+use Rattle.trie.proofs.Order.{outranks-same}
 use Rattle.trie.proofs.Insert.{carry, insert-is}
 use Rattle.trie.proofs.Listed.{held-same}
 
@@ -22,7 +22,7 @@ trie-unique leaf leaf S h k = refl
 trie-unique leaf (node s p c) S h k = absurd (omega (arith, h s, k .some, k .own))
 trie-unique (node s p c) leaf S h k = absurd (omega (arith, k s, h .some, h .own))
 trie-unique (node s p c) (node t o d) S h k =
-    let es : s ≡ t = over-same s t (k .top s (omega (arith, h .some, h .own))) (h .top t (omega (arith, k .some, k .own))) in
+    let es : s ≡ t = outranks-same s t (k .top s (omega (arith, h .some, h .own))) (h .top t (omega (arith, k .some, k .own))) in
     node-eq s t p o c d es (sym (h .own) ∙ ap S es ∙ k .own)
     (fun-ext (λ b. trie-unique (c b) (d b) (side b (upd S s 0)) (h .rest b) (rw es (k .rest b))))
 

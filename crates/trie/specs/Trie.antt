@@ -20,17 +20,17 @@ abbrev pub ahead : Bits → Bits → Bool
 ahead s q = ltb (length q) (length s) || (eqb (length q) (length s) && ltb (value s) (value q))
 
 -- s is to hold a place rather than q. "If the prefix p itself is in S, the node holds it": no bits go first
-abbrev pub over : Bits → Bits → Bool
-over s [] = false
-over [] (b ∷ q) = true
-over (a ∷ s) (b ∷ q) = ahead (a ∷ s) (b ∷ q)
+abbrev pub outranks : Bits → Bits → Bool
+outranks s [] = false
+outranks [] (b ∷ q) = true
+outranks (a ∷ s) (b ∷ q) = ahead (a ∷ s) (b ∷ q)
 
 -- no route of S is to hold the place rather than s
 abbrev pub Top : Routes → Bits → Type 0
-Top S s = (q : Bits) → 0 < S q → over q s ≡ false
+Top S s = (q : Bits) → 0 < S q → outranks q s ≡ false
 
 -- the node's part of the rule, with what its children have to be
-pub record Holds (S : Routes) (s : Bits) (p : ℕ) (Rest : Bool → Type 0) : Type 0 where
+pub record NodeRule (S : Routes) (s : Bits) (p : ℕ) (Rest : Bool → Type 0) : Type 0 where
   pub some : 0 < p
   pub own : S s ≡ p
   pub top : Top S s
@@ -40,7 +40,7 @@ pub record Holds (S : Routes) (s : Bits) (p : ℕ) (Rest : Bool → Type 0) : Ty
 -- children, by the same rule"
 abbrev pub IsTrie : Trie → Routes → Type 0
 IsTrie leaf S = (q : Bits) → S q ≡ 0
-IsTrie (node s p c) S = Holds S s p (λ b. IsTrie (c b) (side b (upd S s 0)))
+IsTrie (node s p c) S = NodeRule S s p (λ b. IsTrie (c b) (side b (upd S s 0)))
 
 -- a priority node: its length is above its depth
 abbrev pub isPriority : Bits → Bool

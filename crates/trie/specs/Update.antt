@@ -4,7 +4,7 @@ use mathlib.Core.List.{List, [], _∷_}
 use Prim.Native.Nat.{ℕ}
 use Rattle.bits.specs.Bits.{Bits, same}
 use Rattle.trie.specs.Routes.{Route}
-use Rattle.trie.specs.Trie.{Trie, leaf, node, ahead, over}
+use Rattle.trie.specs.Trie.{Trie, leaf, node, ahead, outranks}
 
 -- the child c on side b, after f took x, without its first bit, on x's own side
 abbrev pub down : Bool → Bits → Trie → (Bits → Trie) → Trie
@@ -14,12 +14,12 @@ down false (true ∷ x) c f = c
 down true (false ∷ x) c f = c
 down true (true ∷ x) c f = f x
 
--- "A prefix already held gets the new port." A new one takes the place that it is over, and the old holder goes on down.
+-- "A prefix already held gets the new port." A new one takes the place that it is outranks, and the old holder goes on down.
 abbrev pub insert : Bits → ℕ → Trie → Trie
 insert q p leaf = node q p (λ b. leaf)
 insert q p (node s o c) =
     cond (same q s) (node s p c)
-    (cond (over q s)
+    (cond (outranks q s)
     (node q p (λ b. down b s (c b) (λ x. insert x o (c b))))
     (node s o (λ b. down b q (c b) (λ x. insert x p (c b)))))
 
@@ -30,7 +30,7 @@ growsOn (b ∷ x) f = f b x
 
 abbrev pub grows : Bits → Trie → Bool
 grows q leaf = true
-grows q (node s o c) = cond (same q s) false (growsOn (cond (over q s) s q) (λ b x. grows x (c b)))
+grows q (node s o c) = cond (same q s) false (growsOn (cond (outranks q s) s q) (λ b x. grows x (c b)))
 
 -- the routes of a list, inserted one after the other
 unfoldable pub insertAll : Trie → List Route → Trie

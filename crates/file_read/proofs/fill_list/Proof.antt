@@ -1,7 +1,7 @@
 use Prim.Native.Nat.{_-_}
 use native.Mathlib.Omega.{arith}
 use borrow.Author.Needs.{needs}
-use Rattle.file_read.proofs.Filled.{Filled, filled-none, filled-entire, filled-next, filled-more, filled-all}
+use Rattle.file_read.proofs.FillLoop.{Filled, filled-none, filled-entire, filled-next, filled-more, filled-all}
 use Rattle.file_read.proofs.fill_list.Statement.{statement}
 use Rattle.file_read.proofs.fill_list.Tie as tie
 

@@ -1,4 +1,4 @@
-use Rattle.file_read.proofs.Framing.{head-short, head-other, head-sized, head-unsized}
+use Rattle.file_read.proofs.Frame.{head-short, head-other, head-sized, head-unsized}
 use borrow.Author.Needs.{needs}
 use Rattle.file_read.proofs.head_fault.Statement.{statement}
 use Rattle.file_read.proofs.head_fault.Tie as tie

@@ -1,4 +1,4 @@
-use Rattle.file_read.proofs.Reading.{read-refused, read-short, read-fits, read-done}
+use Rattle.file_read.proofs.ReadCall.{read-refused, read-short, read-fits, read-done}
 use borrow.Author.Needs.{needs}
 use Rattle.file_read.proofs.read_file.Statement.{statement}
 use Rattle.file_read.proofs.read_file.Tie as tie

@@ -1,5 +1,5 @@
 use native.Mathlib.Omega.{arith}
-use Rattle.file_write.proofs.Stored.{route-stored}
+use Rattle.file_write.proofs.Store.{route-stored}
 use borrow.Author.Needs.{needs}
 use Rattle.file_write.proofs.put_bytes.Statement.{statement}
 use Rattle.file_write.proofs.put_bytes.Tie as tie

@@ -1,6 +1,6 @@
 use mathlib.Core.Path.{ap, _∙_}
 use lib.ListN.{length}
-use Rattle.file_write.proofs.Stored.{head-stored, length-over-head}
+use Rattle.file_write.proofs.Store.{head-stored, length-over-head}
 use borrow.Author.Needs.{needs}
 use Rattle.file_write.proofs.put_head.Statement.{statement}
 use Rattle.file_write.proofs.put_head.Tie as tie

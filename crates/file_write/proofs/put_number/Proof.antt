@@ -2,7 +2,7 @@ use Prim.Native.Nat.{_-_}
 use mathlib.Core.Path.{refl}
 use native.Mathlib.Omega.{arith}
 use borrow.Author.Needs.{needs}
-use Rattle.file_write.proofs.Stored.{Digits, digits-none, digits-more, digits-all}
+use Rattle.file_write.proofs.Store.{Digits, digits-none, digits-more, digits-all}
 use Rattle.file_write.proofs.put_number.Statement.{statement}
 use Rattle.file_write.proofs.put_number.Tie as tie
 

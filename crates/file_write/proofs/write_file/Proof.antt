@@ -1,4 +1,4 @@
-use Rattle.file_write.proofs.Writing.{write-refused, listed, write-short, write-fits, write-all}
+use Rattle.file_write.proofs.WriteCall.{write-refused, listed, write-short, write-fits, write-all}
 use borrow.Author.Needs.{needs}
 use Rattle.file_write.proofs.write_file.Statement.{statement}
 use Rattle.file_write.proofs.write_file.Tie as tie

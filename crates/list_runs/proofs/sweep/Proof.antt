@@ -8,7 +8,7 @@ use Rattle.routes.specs.Routes.{routeAt}
 use Rattle.routes.specs.Scan.{scanOf}
 use Rattle.runs_rules.specs.Runs.{run, runs, runsFrom}
 use Rattle.list_runs.proofs.Open.{Open, open-none}
-use Rattle.list_runs.proofs.Written.{Counted, counted-none, run-last, room-next, counted-ended, counted-all}
+use Rattle.list_runs.proofs.Writing.{Counted, counted-none, run-last, room-next, counted-ended, counted-all}
 use Rattle.list_runs.proofs.Turns.{turn-close, turn-push, turn-on, turn-end}
 use Rattle.list_runs.proofs.sweep.Statement.{statement}
 use Rattle.list_runs.proofs.sweep.Tie as tie

@@ -5,7 +5,7 @@ use native.Mathlib.Omega.{arith}
 use borrow.Author.Needs.{needs}
 use Rattle.lists.specs.Numbered.{listOf}
 use Rattle.page.specs.Page.{linesOf, runAt}
-use Rattle.page.specs.Put.{Wrote}
+use Rattle.page.specs.Needs.{Wrote}
 use Rattle.page.proofs.Wrote.{wrote-none}
 use Rattle.page.proofs.Lines.{line-le, wrote-line}
 use Rattle.page.proofs.put_lines.Statement.{statement}

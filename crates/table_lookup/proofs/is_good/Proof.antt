@@ -1,5 +1,5 @@
 use native.Mathlib.Omega.{arith}
-use Rattle.table_lookup.proofs.Checked.{good-past, good-none, good-seen}
+use Rattle.table_lookup.proofs.GoodWalk.{good-past, good-none, good-seen}
 use borrow.Author.Needs.{needs}
 use Rattle.table_lookup.proofs.is_good.Statement.{statement}
 use Rattle.table_lookup.proofs.is_good.Tie as tie

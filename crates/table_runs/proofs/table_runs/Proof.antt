@@ -1,6 +1,6 @@
 use mathlib.Core.Path.{refl}
 use Rattle.table_rows.specs.Words.{capacity, rowAt}
-use Rattle.table_runs.proofs.Tabled.{capacity-le, saved-refused, saved-valid, saved-listed}
+use Rattle.table_runs.proofs.OfTable.{capacity-le, saved-refused, saved-valid, saved-listed}
 use borrow.Author.Needs.{needs}
 use Rattle.table_runs.proofs.table_runs.Statement.{statement}
 use Rattle.table_runs.proofs.table_runs.Tie as tie

@@ -4,7 +4,7 @@ use native.Mathlib.Omega.{arith}
 use borrow.Author.Needs.{needs}
 use lib.ListN.{length}
 use Rattle.table_rows.specs.Words.{rowCount, rowAt}
-use Rattle.table_save.proofs.Writing.{ready-row, size-last, wrote-last, size-more, ready-child, wrote-more, wrote-none, below-is, wrote-below}
+use Rattle.table_save.proofs.SaveWalk.{ready-row, size-last, wrote-last, size-more, ready-child, wrote-more, wrote-none, below-is, wrote-below}
 use Prim.Native.Nat.{_*_, _+_}
 use Prim.Native.Nat.{ℕ, _<_}
 use borrow.Fn.Kinds.{In}

@@ -3,7 +3,7 @@ use native.Mathlib.Omega.{arith}
 use Rattle.promise.specs.Over.{outcome}
 use Rattle.routes.specs.declared.Answer.{Answer}
 use Rattle.table_rows.specs.Words.{rowCount, capacity, rowAt}
-use Rattle.table_save.proofs.Writing.{save-refused, save-short, save-none, save-ready, save-done}
+use Rattle.table_save.proofs.SaveWalk.{save-refused, save-short, save-none, save-ready, save-done}
 use borrow.Author.Needs.{needs}
 use Rattle.table_save.proofs.save.Statement.{statement}
 use Rattle.table_save.proofs.save.Tie as tie

@@ -5,7 +5,7 @@ use mathlib.Core.Path.{refl, ap, _∙_}
 use Prim.Native.Nat.{_-_}
 use native.Mathlib.Omega.{arith}
 use borrow.Author.Needs.{needs}
-use Rattle.table_save.proofs.Sinking.{Sinking, sinking-last, sinking-here, sinking-next}
+use Rattle.table_save.proofs.Insertion.{Sinking, sinking-last, sinking-here, sinking-next}
 use Rattle.table_save.proofs.sink_route.Statement.{statement}
 use Rattle.table_save.proofs.sink_route.Tie as tie
 

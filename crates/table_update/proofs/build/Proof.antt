@@ -1,5 +1,5 @@
 use native.Mathlib.Omega.{arith}
-use Rattle.table_update.proofs.Filling.{build-fault, build-few, build-full, build-done}
+use Rattle.table_update.proofs.FillLoop.{build-fault, build-few, build-full, build-done}
 use Rattle.table_rows.specs.Words.{fiveWords}
 use borrow.Author.Needs.{needs}
 use Rattle.table_update.proofs.build.Statement.{statement}

@@ -9,7 +9,7 @@ use Rattle.routes.specs.Routes.{routeAt}
 use Rattle.routes.specs.declared.Route.{Route}
 use Rattle.table_rows.specs.Words.{fiveWords}
 use Rattle.table_update.specs.Calls.{announcedWords, builtFrom}
-use Rattle.table_update.proofs.Filling.{built-turn, built-all}
+use Rattle.table_update.proofs.FillLoop.{built-turn, built-all}
 use Rattle.table_update.proofs.fill.Statement.{statement}
 use Rattle.table_update.proofs.fill.Tie as tie
 

@@ -1,4 +1,4 @@
-use Rattle.file_read.proofs.Framing.{frame-many, frame-long, frame-cut, frame-entire}
+use Rattle.file_read.proofs.Frame.{frame-many, frame-long, frame-cut, frame-entire}
 use borrow.Author.Needs.{needs}
 use Rattle.file_read.proofs.step.frame_fault.Statement.{statement}
 use Rattle.file_read.proofs.step.frame_fault.Tie as tie

@@ -1,7 +1,7 @@
 use Prim.Native.Nat.{_-_, _≤_}
 use native.Mathlib.Omega.{arith}
 use borrow.Author.Needs.{needs}
-use Rattle.file_read.specs.Parts.{NumberAt}
+use Rattle.file_read.specs.Needs.{NumberAt}
 use Rattle.file_read.proofs.Numbers.{number-none, number-more, number-room}
 use mathlib.Core.Path.{_≡_}
 use Rattle.file_read.proofs.step.number_at.Statement.{statement}

@@ -1,4 +1,4 @@
-use Rattle.file_read.proofs.Stepping.{read-is}
+use Rattle.file_read.proofs.StepReturns.{read-is}
 use borrow.Author.Needs.{needs}
 use Rattle.file_read.proofs.step.read_at.Statement.{statement}
 use Rattle.file_read.proofs.step.read_at.Tie as tie

@@ -1,4 +1,4 @@
-use Rattle.file_read.proofs.Stepping.{step-unframed, step-entire, step-faulty, step-took}
+use Rattle.file_read.proofs.StepReturns.{step-unframed, step-entire, step-faulty, step-took}
 use borrow.Author.Needs.{needs}
 use Rattle.file_read.proofs.step.step_at.Statement.{statement}
 use Rattle.file_read.proofs.step.step_at.Tie as tie

@@ -4,7 +4,7 @@ use native.Mathlib.Omega.{arith}
 use denote.Ref.{now}
 use Rattle.prefix.specs.declared.Prefix.{Prefix}
 use Rattle.routes.specs.Routes.{routeAt}
-use Rattle.image_stretch.specs.Stretches.{slotIn, slotAt}
+use Rattle.image_stretch.specs.Stretches.{slotIn, stretchSlot}
 use Rattle.image_stretch.proofs.Filling.{Filling, filling-none, filling-more, filling-room, filling-all}
 use Rattle.image_build.proofs.Slotted.{slot-found}
 use borrow.Author.Needs.{needs}
@@ -13,7 +13,7 @@ use Rattle.image_build.proofs.fill.fill_node.Tie as tie
 
 abbrev Inv-loop : tie.InvT-loop
 Inv-loop list x stride slots nodes₀ ports₀ address depth j₀ st₀ nodes ports j st =
-    Filling (slotAt 32 (routeAt list) stride x) slots nodes₀ ports₀ (st₀ .nodes) (st₀ .ports) nodes ports j st
+    Filling (stretchSlot 32 (routeAt list) stride x) slots nodes₀ ports₀ (st₀ .nodes) (st₀ .ports) nodes ports j st
 
 abbrev μ-loop : tie.MeasureT-loop
 μ-loop list x stride slots nodes₀ ports₀ address depth j₀ st₀ nodes ports j st = slots - j
@@ -28,7 +28,7 @@ add-depth c = search needs
 loop-holds : tie.Need-loop-holds Inv-loop μ-loop
 loop-holds c =
     let a = c .before .before .before .before .before .args in
-    filling-none (slotAt 32 (routeAt (now (a .list))) (a .stride) (a .x)) (a .slots) (now (a .nodes)) (now (a .ports)) (a .at .nodes) (a .at .ports)
+    filling-none (stretchSlot 32 (routeAt (now (a .list))) (a .stride) (a .x)) (a .slots) (now (a .nodes)) (now (a .ports)) (a .at .nodes) (a .at .ports)
 
 slot-place-requires : tie.Need-slot-place-requires Inv-loop μ-loop
 slot-place-requires c κs = search needs
@@ -45,7 +45,7 @@ fill-slot-requires c κs =
     let y = c .before .before .slot-stretch in
     let p = c .before .before .before .slot-place in
     let e = slot-found 32 (routeAt (now (a .list))) (a .stride) (a .x) (y .result) (c .before .before .before .before .before .before .before .address-of .result) (l .j) (p .result) (c .before .before .before .before .before .before .before .address-of .ensures) (p .ensures) (y .ensures .0) in
-    let r = filling-room (slotAt 32 (routeAt (now (a .list))) (a .stride) (a .x)) (a .slots) (now (a .nodes)) (now (a .ports)) (a .at .nodes) (a .at .ports)
+    let r = filling-room (stretchSlot 32 (routeAt (now (a .list))) (a .stride) (a .x)) (a .slots) (now (a .nodes)) (now (a .ports)) (a .at .nodes) (a .at .ports)
     (l .nodes) (l .ports) (l .j) (l .st) (l .inv) (c .before .before .before .before .loop-test .taken) (d .pre .0 .few) (slotIn (routeAt (now (a .list))) (y .result)) e (d .pre .2) (d .pre .3) in
     let deep : y .result .depth ≡ a .x .depth + a .stride = y .ensures .3 ∙ ap (λ (q : Prefix). q .len) (p .ensures) in
     (y .ensures .1, omega (arith, y .ensures .2, d .pre .1 .few), omega (arith, deep, d .pre .1 .deep), r .0, r .1, r .2)
@@ -65,7 +65,7 @@ loop-again c =
     let p = c .before .before .before .before .before .before .before .before .slot-place in
     let f = c .before .before .before .before .fill-slot in
     let e = slot-found 32 (routeAt (now (a .list))) (a .stride) (a .x) (y .result) (c .before .before .before .before .before .before .before .before .before .before .before .before .address-of .result) (l .j) (p .result) (c .before .before .before .before .before .before .before .before .before .before .before .before .address-of .ensures) (p .ensures) (y .ensures .0) in
-    filling-more (slotAt 32 (routeAt (now (a .list))) (a .stride) (a .x)) (a .slots) (now (a .nodes)) (now (a .ports)) (a .at .nodes) (a .at .ports)
+    filling-more (stretchSlot 32 (routeAt (now (a .list))) (a .stride) (a .x)) (a .slots) (now (a .nodes)) (now (a .ports)) (a .at .nodes) (a .at .ports)
     (l .nodes) (l .ports) (l .j) (l .st) (l .inv) (c .before .before .before .before .before .before .before .before .before .loop-test .taken) (slotIn (routeAt (now (a .list))) (y .result)) e (f .ensures .0) (f .ensures .1) (f .ensures .2)
 
 same-length : tie.Need-same-length Inv-loop μ-loop
@@ -78,7 +78,7 @@ returns : tie.Need-returns Inv-loop μ-loop
 returns c =
     let a = c .before .before .before .before .before .before .before .args in
     let l = c .before .loop in
-    filling-all (slotAt 32 (routeAt (now (a .list))) (a .stride) (a .x)) (a .slots) (now (a .nodes)) (now (a .ports)) (a .at .nodes) (a .at .ports)
+    filling-all (stretchSlot 32 (routeAt (now (a .list))) (a .stride) (a .x)) (a .slots) (now (a .nodes)) (now (a .ports)) (a .at .nodes) (a .at .ports)
     (l .nodes) (l .ports) (l .j) (l .st) (l .inv) (c .loop-test .left)
 
 pub fill-node-spec : {M : Type 1} → statement M

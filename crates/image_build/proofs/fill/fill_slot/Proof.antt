@@ -6,7 +6,7 @@ use lib.ListN.{length}
 use lib.Seq.{sets}
 use Rattle.routes.specs.Routes.{routeAt}
 use Rattle.lists.specs.Flat.{flat}
-use Rattle.image_rules.specs.Breadth.{Slot, childOf, portOf}
+use Rattle.image_rules.specs.Breadth.{Slot, slotChildren, slotPorts}
 use Rattle.image_stretch.specs.declared.Stretch.{Stretch}
 use Rattle.image_stretch.specs.Stretches.{slotIn}
 use Rattle.image_stretch.specs.Memory.{pending}
@@ -23,7 +23,7 @@ put-stretch-requires c κs =
     let d = c .before .before .before .before .before .before in
     let a = d .args in
     let o = slot-goes (routeAt (now (a .list))) (a .y) _ (c .before .before .goes-on .ensures) (c .before .if1 .taken) in
-    let n : length (childOf (slotIn (routeAt (now (a .list))) (a .y))) ≡ 1 = ap (λ (s : Slot Stretch). length (childOf s)) o in
+    let n : length (slotChildren (slotIn (routeAt (now (a .list))) (a .y))) ≡ 1 = ap (λ (s : Slot Stretch). length (slotChildren s)) o in
     (omega (arith, n, d .pre .4), d .pre .0 .rows, d .pre .1, d .pre .2, d .pre .0 .low)
 
 mul-t11 : tie.Need-mul-t11
@@ -41,8 +41,8 @@ returns c =
     let a = d .args in
     let o = slot-goes (routeAt (now (a .list))) (a .y) _ (c .before .before .before .before .before .before .before .goes-on .ensures) (c .before .before .before .before .before .before .if1 .taken) in (
       filled-goes (slotIn (routeAt (now (a .list))) (a .y)) (a .y) (a .st) o,
-      c .before .before .before .before .put-stretch .ensures ∙ ap (λ (s : Slot Stretch). sets (now (a .nodes)) (a .st .nodes * 3) (flat pending (childOf s))) (sym o),
-      ap (λ (s : Slot Stretch). sets (now (a .ports)) (a .st .ports) (portOf s)) (sym o),
+      c .before .before .before .before .put-stretch .ensures ∙ ap (λ (s : Slot Stretch). sets (now (a .nodes)) (a .st .nodes * 3) (flat pending (slotChildren s))) (sym o),
+      ap (λ (s : Slot Stretch). sets (now (a .ports)) (a .st .ports) (slotPorts s)) (sym o),
     )
 
 leaf-port-requires : tie.Need-leaf-port-requires
@@ -59,7 +59,7 @@ slice-write-ports c =
     let d = c .before .before .before .before .before .before in
     let a = d .args in
     let o = slot-ends (routeAt (now (a .list))) (a .y) _ _ (c .before .before .goes-on .ensures) (c .before .if1 .left) (c .leaf-port .ensures .0) in
-    let n : length (portOf (slotIn (routeAt (now (a .list))) (a .y))) ≡ 1 = ap (λ (s : Slot Stretch). length (portOf s)) o in
+    let n : length (slotPorts (slotIn (routeAt (now (a .list))) (a .y))) ≡ 1 = ap (λ (s : Slot Stretch). length (slotPorts s)) o in
     omega (arith, n, d .pre .5)
 
 mul-t13 : tie.Need-mul-t13
@@ -80,8 +80,8 @@ returns-2 c =
     let a = d .args in
     let o = slot-ends (routeAt (now (a .list))) (a .y) _ _ (c .before .before .before .goes-on .ensures) (c .before .before .if1 .left) (c .before .leaf-port .ensures .0) in (
       filled-ends (slotIn (routeAt (now (a .list))) (a .y)) _ (a .st) o,
-      ap (λ (s : Slot Stretch). sets (now (a .nodes)) (a .st .nodes * 3) (flat pending (childOf s))) (sym o),
-      ap (λ (s : Slot Stretch). sets (now (a .ports)) (a .st .ports) (portOf s)) (sym o),
+      ap (λ (s : Slot Stretch). sets (now (a .nodes)) (a .st .nodes * 3) (flat pending (slotChildren s))) (sym o),
+      ap (λ (s : Slot Stretch). sets (now (a .ports)) (a .st .ports) (slotPorts s)) (sym o),
     )
 
 pub fill-slot-spec : {M : Type 1} → statement M

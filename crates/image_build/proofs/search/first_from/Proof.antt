@@ -5,7 +5,7 @@ use mathlib.Core.Path.{_≡_, refl, sym, _∙_}
 use Prim.Native.Nat.{_-_, _≤_}
 use native.Mathlib.Omega.{arith}
 use Rattle.routes.specs.Routes.{routeAt}
-use Rattle.image_stretch.specs.Stretches.{past, ahead}
+use Rattle.image_stretch.specs.Stretches.{past, standsBefore}
 use Rattle.image_stretch.proofs.Search.{past-more, past-here, past-all}
 use borrow.Author.Needs.{needs}
 use Rattle.image_build.proofs.search.first_from.Statement.{statement}
@@ -13,7 +13,7 @@ use Rattle.image_build.proofs.search.first_from.Tie as tie
 
 abbrev Inv-loop : tie.InvT-loop
 Inv-loop list place lo hi i₀ i =
-    (lo ≤ i) × (i ≤ hi) × (past (ahead (routeAt list) (place .value) (place .len)) (hi - i) i ≡ past (ahead (routeAt list) (place .value) (place .len)) (hi - lo) lo)
+    (lo ≤ i) × (i ≤ hi) × (past (standsBefore (routeAt list) (place .value) (place .len)) (hi - i) i ≡ past (standsBefore (routeAt list) (place .value) (place .len)) (hi - lo) lo)
 
 abbrev μ-loop : tie.MeasureT-loop
 μ-loop list place lo hi i₀ i = hi - i
@@ -60,7 +60,7 @@ loop-again c =
     let l = c .before .before .before .before .before .before .loop in
     let a = c .before .before .before .before .before .before .before .before .args in
     let t = precedes-found _ _ _ _ _ _ true (p .ensures) (c .before .precedes .ensures) (c .if1 .taken) in
-    (omega arith, omega arith, sym (past-more (ahead (routeAt (now (a .list))) (a .place .value) (a .place .len)) (a .hi) (l .i) (search needs) t) ∙ l .inv .2)
+    (omega arith, omega arith, sym (past-more (standsBefore (routeAt (now (a .list))) (a .place .value) (a .place .len)) (a .hi) (l .i) (search needs) t) ∙ l .inv .2)
 
 returns : tie.Need-returns Inv-loop μ-loop
 returns c =
@@ -68,13 +68,13 @@ returns c =
     let l = c .before .before .before .before .before .before .loop in
     let a = c .before .before .before .before .before .before .before .before .args in
     let t = precedes-found _ _ _ _ _ _ false (p .ensures) (c .before .precedes .ensures) (c .if1 .left) in
-    (sym (past-here (ahead (routeAt (now (a .list))) (a .place .value) (a .place .len)) (a .hi) (l .i) (search needs) t) ∙ l .inv .2, omega arith, omega arith)
+    (sym (past-here (standsBefore (routeAt (now (a .list))) (a .place .value) (a .place .len)) (a .hi) (l .i) (search needs) t) ∙ l .inv .2, omega arith, omega arith)
 
 returns-2 : tie.Need-returns-2 Inv-loop μ-loop
 returns-2 c =
     let l = c .before .loop in
     let a = c .before .before .before .args in
-    (sym (past-all (ahead (routeAt (now (a .list))) (a .place .value) (a .place .len)) (a .hi) (l .i) (search needs)) ∙ l .inv .2, omega arith, omega arith)
+    (sym (past-all (standsBefore (routeAt (now (a .list))) (a .place .value) (a .place .len)) (a .hi) (l .i) (search needs)) ∙ l .inv .2, omega arith, omega arith)
 
 pub first-from-spec : {M : Type 1} → statement M
 first-from-spec =

@@ -4,7 +4,7 @@ use lib.ListN.{length, take}
 use native.Mathlib.Omega.{arith}
 use borrow.Author.Needs.{needs}
 use lib.Seq.{length-take-le}
-use Rattle.page.specs.Put.{Wrote}
+use Rattle.page.specs.Needs.{Wrote}
 use Rattle.page.proofs.Wrote.{wrote-none, wrote-next, wrote-all}
 use Rattle.page.proofs.put.put_bytes.Statement.{statement}
 use Rattle.page.proofs.put.put_bytes.Tie as tie

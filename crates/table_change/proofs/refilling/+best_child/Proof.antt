@@ -3,7 +3,7 @@ use native.Mathlib.Omega.{arith}
 use mathlib.Core.Path.{refl}
 use Rattle.table_rows.specs.Words.{fiveWords}
 use Rattle.table_rules.specs.Withdraw.{noRoute}
-use Rattle.table_change.proofs.Refilled.{best-none, best-last, best-priority, best-ordinary}
+use Rattle.table_change.proofs.Withdraw.{best-none, best-last, best-priority, best-ordinary}
 use Prim.Native.Nat.{ℕ, _<_}
 use borrow.Fn.Kinds.{In}
 use borrow.Fn.PlainCycle.{Measures, is, falls, and}

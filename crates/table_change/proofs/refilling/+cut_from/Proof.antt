@@ -1,7 +1,7 @@
 use borrow.Author.Needs.{needs}
 use mathlib.Core.Path.{_∙_}
 use Rattle.table_rows.specs.Words.{fiveWords}
-use Rattle.table_change.proofs.Refilled.{cut-none, cut-last, cut-on}
+use Rattle.table_change.proofs.Withdraw.{cut-none, cut-last, cut-on}
 use Prim.Native.Nat.{ℕ, _<_}
 use borrow.Fn.Kinds.{In}
 use borrow.Fn.PlainCycle.{Measures, is, falls, and}

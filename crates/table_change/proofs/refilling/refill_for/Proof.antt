@@ -1,4 +1,4 @@
-use Rattle.table_change.proofs.Refilled.{refill-same, refill-other}
+use Rattle.table_change.proofs.Withdraw.{refill-same, refill-other}
 use Rattle.table_rows.specs.Words.{fiveWords}
 use borrow.Author.Needs.{needs}
 use Rattle.table_change.proofs.refilling.refill_for.Statement.{statement}

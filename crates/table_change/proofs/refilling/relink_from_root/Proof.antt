@@ -6,7 +6,7 @@ use mathlib.Core.List.{List}
 use Prim.Native.Nat.{ℕ, _<_, _≤_}
 use Rattle.table_rows.specs.Words.{fiveWords}
 use Rattle.table_rules.specs.Withdraw.{relink}
-use Rattle.table_change.proofs.Refilled.{relink-done, relink-here, relink-on}
+use Rattle.table_change.proofs.Withdraw.{relink-done, relink-here, relink-on}
 use Rattle.table_change.proofs.refilling.relink_from_root.Statement.{statement}
 use Rattle.table_change.proofs.refilling.relink_from_root.Tie as tie
 

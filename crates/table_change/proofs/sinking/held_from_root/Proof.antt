@@ -5,7 +5,7 @@ use mathlib.Core.Path.{_≡_, refl}
 use Prim.Native.Nat.{_<_, _≤_}
 use Rattle.table_rows.specs.Words.{fiveWords}
 use Rattle.table_rules.specs.Announce.{heldAt}
-use Rattle.table_change.proofs.Finding.{held-same, held-last, held-over, held-none, held-next}
+use Rattle.table_change.proofs.Held.{held-same, held-last, held-over, held-none, held-next}
 use Rattle.table_change.proofs.sinking.held_from_root.Statement.{statement}
 use Rattle.table_change.proofs.sinking.held_from_root.Tie as tie
 
@@ -33,16 +33,16 @@ returns c =
 sub-left : tie.Need-sub-left Inv-loop μ-loop
 sub-left c = search needs
 
-sub-is-over : tie.Need-sub-is-over Inv-loop μ-loop
-sub-is-over c = search needs
+sub-outranks-row : tie.Need-sub-outranks-row Inv-loop μ-loop
+sub-outranks-row c = search needs
 
-is-over-requires : tie.Need-is-over-requires Inv-loop μ-loop
-is-over-requires c κs = search needs
+outranks-row-requires : tie.Need-outranks-row-requires Inv-loop μ-loop
+outranks-row-requires c κs = search needs
 
 returns-2 : tie.Need-returns-2 Inv-loop μ-loop
 returns-2 c =
     let l = c .before .before .before .before .before .before .loop in
-    held-over 32 _ _ (l .left) (l .row) _ (l .inv .1) (c .before .before .before .before .row-at .result) (c .before .before .before .before .row-at .ensures) (c .before .before .before .is-same .result) (c .before .before .before .is-same .ensures) (search needs) (c .before .before .if1 .left) (31 - (l .left - 1)) (omega arith) (c .before .is-over .result) (c .before .is-over .ensures) (c .if2 .taken)
+    held-over 32 _ _ (l .left) (l .row) _ (l .inv .1) (c .before .before .before .before .row-at .result) (c .before .before .before .before .row-at .ensures) (c .before .before .before .is-same .result) (c .before .before .before .is-same .ensures) (search needs) (c .before .before .if1 .left) (31 - (l .left - 1)) (omega arith) (c .before .outranks-row .result) (c .before .outranks-row .ensures) (c .if2 .taken)
 
 bit-before-requires : tie.Need-bit-before-requires Inv-loop μ-loop
 bit-before-requires c κs = search needs
@@ -54,7 +54,7 @@ returns-3 : tie.Need-returns-3 Inv-loop μ-loop
 returns-3 c =
     let d = c .before .before .before in
     let l = d .before .before .before .before .before .before .loop in
-    held-none 32 _ _ (l .left) (l .row) _ (l .inv .1) (d .before .before .before .before .row-at .result) (d .before .before .before .before .row-at .ensures) (d .before .before .before .is-same .result) (d .before .before .before .is-same .ensures) (search needs) (d .before .before .if1 .left) (31 - (l .left - 1)) (omega arith) (d .before .is-over .result) (d .before .is-over .ensures) (d .if2 .left) (c .before .before .bit-before .result) (c .before .before .bit-before .ensures) (c .before .child-of .result) (c .before .child-of .ensures) (c .if3 .taken)
+    held-none 32 _ _ (l .left) (l .row) _ (l .inv .1) (d .before .before .before .before .row-at .result) (d .before .before .before .before .row-at .ensures) (d .before .before .before .is-same .result) (d .before .before .before .is-same .ensures) (search needs) (d .before .before .if1 .left) (31 - (l .left - 1)) (omega arith) (d .before .outranks-row .result) (d .before .outranks-row .ensures) (d .if2 .left) (c .before .before .bit-before .result) (c .before .before .bit-before .ensures) (c .before .child-of .result) (c .before .child-of .ensures) (c .if3 .taken)
 
 loop-less : tie.Need-loop-less Inv-loop μ-loop
 loop-less c = search needs
@@ -65,7 +65,7 @@ loop-again c =
     let l = d .before .before .before .before .before .before .loop in
     let x = d .before .before .before .before .row-at in (
       search needs,
-      held-next 32 _ _ (l .left) (l .row) _ (l .inv .1) (x .result) (x .ensures) (d .before .before .before .is-same .result) (d .before .before .before .is-same .ensures) (search needs) (d .before .before .if1 .left) (31 - (l .left - 1)) (omega arith) (d .before .is-over .result) (d .before .is-over .ensures) (d .if2 .left) (c .before .before .bit-before .result) (c .before .before .bit-before .ensures) (c .before .child-of .result) (c .before .child-of .ensures) (c .if3 .left),
+      held-next 32 _ _ (l .left) (l .row) _ (l .inv .1) (x .result) (x .ensures) (d .before .before .before .is-same .result) (d .before .before .before .is-same .ensures) (search needs) (d .before .before .if1 .left) (31 - (l .left - 1)) (omega arith) (d .before .outranks-row .result) (d .before .outranks-row .ensures) (d .if2 .left) (c .before .before .bit-before .result) (c .before .before .bit-before .ensures) (c .before .child-of .result) (c .before .child-of .ensures) (c .if3 .left),
     )
 
 row-at-requires-2 : tie.Need-row-at-requires-2 Inv-loop μ-loop
@@ -90,8 +90,8 @@ held-from-root-spec =
     is-same-requires
     returns
     sub-left
-    sub-is-over
-    is-over-requires
+    sub-outranks-row
+    outranks-row-requires
     returns-2
     bit-before-requires
     child-of-requires

@@ -2,31 +2,31 @@ use mathlib.Core.Path.{ap, _∙_}
 use Prim.Native.Nat.{_-_}
 use Rattle.routes.specs.declared.Route.{Route}
 use Rattle.table_rules.specs.Rows.{withRoute}
-use Rattle.table_rules.specs.Announce.{pick}
-use Rattle.table_change.proofs.Finding.{plan-is}
+use mathlib.Core.Bool.{cond}
+use Rattle.table_change.proofs.Held.{plan-is}
 use mathlib.Core.Path.{_≡_, ap, ap₂, _∙_}
 use native.Mathlib.Omega.{arith}
 use borrow.Author.Needs.{needs}
 use Rattle.table_change.proofs.sinking.plan_for.Statement.{statement}
 use Rattle.table_change.proofs.sinking.plan_for.Tie as tie
 
-sub-is-over : tie.Need-sub-is-over
-sub-is-over c = search needs
+sub-outranks-row : tie.Need-sub-outranks-row
+sub-outranks-row c = search needs
 
-is-over-requires : tie.Need-is-over-requires
-is-over-requires c κs = search needs
+outranks-row-requires : tie.Need-outranks-row-requires
+outranks-row-requires c κs = search needs
 
 route-of-requires : tie.Need-route-of-requires
 route-of-requires c κs = search needs
 
-pick-requires : tie.Need-pick-requires
-pick-requires c κs = search needs
+route-if-requires : tie.Need-route-if-requires
+route-if-requires c κs = search needs
 
 route-of-requires-2 : tie.Need-route-of-requires-2
 route-of-requires-2 c κs = search needs
 
-pick-requires-2 : tie.Need-pick-requires-2
-pick-requires-2 c κs = search needs
+route-if-requires-2 : tie.Need-route-if-requires-2
+route-if-requires-2 c κs = search needs
 
 with-route-requires : tie.Need-with-route-requires
 with-route-requires c κs = search needs
@@ -42,11 +42,11 @@ returns c =
     let b = c .before .before in
     let o = b .before .before .before .before .before in
     let a = o .before .args in
-    plan-is 32 (a .x) (a .q) (a .left) (31 - a .left) (o .is-over .result) (b .before .before .before .pick .result) (b .with-route .result) (c .before .bit-before .result) (c .child-of .result)
+    plan-is 32 (a .x) (a .q) (a .left) (31 - a .left) (o .outranks-row .result) (b .before .before .before .route-if .result) (b .with-route .result) (c .before .bit-before .result) (c .child-of .result)
     (omega arith)
-    (o .is-over .ensures)
-    (b .before .before .before .pick .ensures ∙ ap (λ (r : Route). pick (o .is-over .result) r (a .q)) (b .before .before .before .before .route-of .ensures))
-    (b .with-route .ensures ∙ ap (withRoute (a .x)) (b .before .pick2 .ensures ∙ ap (λ (r : Route). pick (o .is-over .result) (a .q) r) (b .before .before .route-of2 .ensures)))
+    (o .outranks-row .ensures)
+    (b .before .before .before .route-if .ensures ∙ ap (λ (r : Route). cond (o .outranks-row .result) r (a .q)) (b .before .before .before .before .route-of .ensures))
+    (b .with-route .ensures ∙ ap (withRoute (a .x)) (b .before .route-if2 .ensures ∙ ap (λ (r : Route). cond (o .outranks-row .result) (a .q) r) (b .before .before .route-of2 .ensures)))
     (c .before .bit-before .ensures)
     (c .child-of .ensures)
 
@@ -54,12 +54,12 @@ pub plan-for-spec : {M : Type 1} → statement M
 plan-for-spec =
     tie.close
     (tie.spec
-    sub-is-over
-    is-over-requires
+    sub-outranks-row
+    outranks-row-requires
     route-of-requires
-    pick-requires
+    route-if-requires
     route-of-requires-2
-    pick-requires-2
+    route-if-requires-2
     with-route-requires
     bit-before-requires
     child-of-requires

@@ -9,7 +9,7 @@ use Rattle.table_rules.specs.Rows.{withRoute}
 use Rattle.table_rows.specs.Words.{fiveWords}
 use Rattle.table_rules.specs.Announce.{isSame, sink}
 use Rattle.table_rules.specs.declared.Row.{Row}
-use Rattle.table_change.proofs.Sunk.{Sinking, sinking-same, sinking-last, sinking-leaf, sinking-more}
+use Rattle.table_change.proofs.Announce.{Sinking, sinking-same, sinking-last, sinking-leaf, sinking-more}
 use Rattle.table_change.proofs.sinking.sink_from_root.Statement.{statement}
 use Rattle.table_change.proofs.sinking.sink_from_root.Tie as tie
 

@@ -5,7 +5,7 @@ use native.Mathlib.Omega.{arith}
 use borrow.Author.Needs.{needs}
 use borrow.Author.Tests.{eq-eqb, ne-eqb}
 use Rattle.table_rules.proofs.Right.{child-lt}
-use Rattle.table_lookup.proofs.Checked.{half-valid, half-len, half-rows, to-wrong, to-last, to-left-wrong, to-join}
+use Rattle.table_lookup.proofs.GoodWalk.{half-valid, half-len, half-rows, to-wrong, to-last, to-left-wrong, to-join}
 use Prim.Native.Nat.{ℕ, _<_}
 use borrow.Fn.Kinds.{In}
 use borrow.Fn.PlainCycle.{Measures, is, falls, and}

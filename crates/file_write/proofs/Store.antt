@@ -11,8 +11,8 @@ use Rattle.promise.proofs.Over.{over-push, length-over}
 use Rattle.file_rules.specs.Bytes.{digits}
 use Rattle.file_rules.specs.File.{version, headSize, prefixBytes, sizeFor, routeBytes, headOf}
 use Rattle.file_rules.proofs.Bytes.{length-digits}
-use Rattle.file_rules.proofs.Accepted.{length-head}
-use Rattle.file_write.specs.Parts.{stored}
+use Rattle.file_rules.proofs.Whole.{length-head}
+use Rattle.file_write.specs.Needs.{stored}
 use Rattle.routes.specs.declared.Route.{Route}
 
 pub length-stored : (file : List ℕ) (at : ℕ) (bytes : List ℕ) → at + length bytes ≤ length file → length (stored file at bytes) ≡ length file

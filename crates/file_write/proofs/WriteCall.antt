@@ -11,10 +11,10 @@ use Rattle.routes.specs.Check.{listCheck}
 use Rattle.routes.specs.declared.Answer.{Answer}
 use Rattle.file_rules.specs.File.{headSize, bodyOf, headOf, fileOf}
 use Rattle.file_rules.specs.Calls.{writeFile}
-use Rattle.file_rules.proofs.Accepted.{length-head}
+use Rattle.file_rules.proofs.Whole.{length-head}
 use Rattle.file_rules.proofs.Trips.{checked-refused, checked-short, write-done}
-use Rattle.file_write.specs.Parts.{stored, BodySize, FitsFile}
-use Rattle.file_write.proofs.Stored.{stored-over, length-over-head}
+use Rattle.file_write.specs.Needs.{stored, BodySize, FitsFile}
+use Rattle.file_write.proofs.Store.{stored-over, length-over-head}
 
 module _ (w : ℕ) (list file : List ℕ) (checked : Answer) (is : checked ≡ listCheck w list) where
   pub write-refused : (checked .number ≡ 0 → ⊥) → outcome checked file ≡ writeFile w list file

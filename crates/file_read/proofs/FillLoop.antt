@@ -4,8 +4,8 @@ use mathlib.Core.List.{List, _++_}
 use Prim.Native.Nat.{ℕ, _+_, _*_, _≤_, _<_}
 use native.Mathlib.Omega.{arith}
 use lib.ListN.{length, length-set}
-use Rattle.promise.specs.Over.{over, put3}
-use Rattle.promise.proofs.Over.{over-put3}
+use Rattle.promise.specs.Over.{over, storeThree}
+use Rattle.promise.proofs.Over.{over-three}
 use Rattle.routes.specs.Routes.{routeWords}
 use Rattle.routes.specs.declared.Route.{Route}
 use Rattle.file_rules.specs.File.{prefixBytes, lenAt, readAt, placeOf, fileRoute, inOrder}
@@ -15,7 +15,7 @@ use Rattle.file_rules.specs.declared.Spared.{Spared}
 use Rattle.file_rules.proofs.InOrder.{in-order-more}
 use Rattle.file_rules.proofs.Sound.{place-more, fault-none}
 use Rattle.file_rules.proofs.Words.{length-list}
-use Rattle.file_read.specs.Parts.{FitsList}
+use Rattle.file_read.specs.Needs.{FitsList}
 
 -- i of n routes are written, and the next one is at an offset
 pub record Filled (w : ℕ) (file list₀ : List ℕ) (n : ℕ) (list : List ℕ) (at i : ℕ) : Type 0 where
@@ -40,7 +40,7 @@ module _ (w : ℕ) (file list₀ : List ℕ) (n : ℕ) (fits : FitsList w file l
       omega (arith, filled-entire h .uncut, e)
 
   pub filled-more : i < n → (x : Spared) (list′ : List ℕ) (k : ℕ) → x ≡ readAt w file at
-      → list′ ≡ put3 list (i * 3) (x .route .value) (x .route .len) (x .route .port) → k ≡ prefixBytes (x .route .len)
+      → list′ ≡ storeThree list (i * 3) (x .route .value) (x .route .len) (x .route .port) → k ≡ prefixBytes (x .route .len)
       → Filled w file list₀ n list′ (at + (k + 3)) (i + 1)
   unfolding readAt
   filled-more h x list′ k x-is list-is k-is = record {
@@ -48,8 +48,8 @@ module _ (w : ℕ) (file list₀ : List ℕ) (n : ℕ) (fits : FitsList w file l
     at-place = ap₂ (λ (p q : ℕ). p + (q + 3)) (so .at-place) (k-is ∙ ap (λ (r : Route). prefixBytes (r .len)) route-is) ∙ sym (place-more file i);
     same = ap length list-is ∙ simp length-set (so .same);
     written =
-        list-is ∙ ap (λ (l : List ℕ). put3 l (i * 3) (x .route .value) (x .route .len) (x .route .port)) (so .written)
-        ∙ over-put3 (listOfRoutes R i) list₀ (x .route .value) (x .route .len) (x .route .port) (i * 3) (length-list R i) (omega (arith, fits .room))
+        list-is ∙ ap (λ (l : List ℕ). storeThree l (i * 3) (x .route .value) (x .route .len) (x .route .port)) (so .written)
+        ∙ over-three (listOfRoutes R i) list₀ (x .route .value) (x .route .len) (x .route .port) (i * 3) (length-list R i) (omega (arith, fits .room))
         ∙ ap (λ (r : Route). over (listOfRoutes R i ++ routeWords r) list₀) route-is
         ∙ ap (λ (l : List ℕ). over l list₀) (sym (in-order-more routeWords R i));
   }

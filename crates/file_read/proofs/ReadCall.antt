@@ -13,7 +13,7 @@ use Rattle.file_rules.specs.Calls.{listOfRoutes, readFile}
 use Rattle.file_rules.proofs.Walk.{accepted-whole, check-whole}
 use Rattle.file_rules.proofs.Words.{length-list}
 use Rattle.file_rules.proofs.Trips.{checked-refused, checked-short, read-whole}
-use Rattle.file_read.specs.Parts.{FitsList}
+use Rattle.file_read.specs.Needs.{FitsList}
 
 module _ (w : ℕ) (file list : List ℕ) (checked : Answer) (is : checked ≡ fileCheck w file) where
   number-is : (n : ℕ) → checked .number ≡ n → fileCheck w file .number ≡ n

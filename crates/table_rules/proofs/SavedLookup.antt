@@ -17,7 +17,7 @@ use Rattle.table_rules.specs.declared.Found.{Found}
 use Rattle.table_rules.proofs.Lookup.{lookup-is-scan}
 use Rattle.table_rules.specs.Theorems.{LookupIsSavedScan}
 use Rattle.table_rules.proofs.Good.{check-is-good}
-use Rattle.table_rules.proofs.Saved.{saved-is}
+use Rattle.table_rules.proofs.Save.{saved-is}
 
 -- the elements of a list by their numbers are the list
 list-of-from : (d : Route) (pre rs : List Route) → listOf (λ i. getD (pre ++ rs) i d) (length rs) (length pre) ≡ rs

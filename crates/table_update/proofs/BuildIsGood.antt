@@ -25,10 +25,10 @@ use Rattle.table_rules.proofs.Table.{held-is}
 use Rattle.table_rules.proofs.Lookup.{lookup-is-scan}
 use Rattle.table_rules.proofs.Good.{check-is-good, placed→held}
 use Rattle.table_update.specs.Calls.{announcedWords, announceIn, announceInto, builtFrom}
-use Rattle.table_update.specs.Fills.{Fills}
+use Rattle.table_update.specs.Needs.{Fills}
 use Rattle.table_update.specs.Theorems.{BuiltIs, BuiltLookupIsScan, BuildIsAnnouncing}
 use Rattle.table_update.proofs.Arguments.{route-faultless}
-use Rattle.table_update.proofs.Filling.{Filling, filling-none, filling-room, filling-more, filling-set}
+use Rattle.table_update.proofs.FillLoop.{Filling, filling-none, filling-room, filling-more, filling-set}
 
 module _ (L : Layout (List ℕ)) (w : ℕ) (st : Stores w L) (R : ℕ → Route) (words : List ℕ) (n : ℕ) (fills : Fills L w R words n) where
   -- after i routes, whatever is left

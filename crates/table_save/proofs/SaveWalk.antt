@@ -22,12 +22,12 @@ use Rattle.table_rules.specs.Walk.{savedBelow}
 use Rattle.table_rules.specs.Ascending.{Ascending}
 use Rattle.table_rules.specs.Ready.{Ready}
 use Rattle.table_rules.proofs.Good.{check-is-good}
-use Rattle.table_rules.proofs.Saved.{good-ready, saved-is}
+use Rattle.table_rules.proofs.Save.{good-ready, saved-is}
 use Rattle.table_rules.proofs.Ascending.{length-insert}
 use Rattle.routes.proofs.Words.{length-words, words-append}
 use Rattle.lists.proofs.Sets.{sets-append}
 use Rattle.table_save.specs.Writing.{putRoute, sunk, Wrote}
-use Rattle.table_save.proofs.Sinking.{sunk-is}
+use Rattle.table_save.proofs.Insertion.{sunk-is}
 
 pub ready-row : (M : Mem) (room k r : ℕ) → Ready M room k r → r < room
 unfolding Ready

@@ -24,8 +24,8 @@ use Rattle.table_rules.specs.Check.{isGood}
 use Rattle.table_rules.specs.Save.{saved, saveInto}
 use Rattle.table_rules.specs.Theorems.{SavedWell}
 use Rattle.table_rules.proofs.Good.{check-is-good}
-use Rattle.table_rules.proofs.Saved.{saved-is}
-use Rattle.table_rules.proofs.Looked.{lookup-is-saved-scan}
+use Rattle.table_rules.proofs.Save.{saved-is}
+use Rattle.table_rules.proofs.SavedLookup.{lookup-is-saved-scan}
 use Rattle.table_rules.proofs.Lookup.{lookup-is-scan}
 use Rattle.table_rules.specs.declared.Found.{Found}
 use Rattle.routes.proofs.Words.{get-words-at}

@@ -34,7 +34,7 @@ use Rattle.table_rules.proofs.Holds.{Below, below-root, below-child, be
 use Rattle.table_rules.specs.Walk.{savedBelow}
 use Rattle.table_rules.specs.Ascending.{Before, Ascending}
 use Rattle.table_rules.specs.Ready.{Ready}
-use Rattle.table_rules.proofs.Reached.{upd-live, size}
+use Rattle.table_rules.proofs.Reach.{upd-live, size}
 use Rattle.table_rules.proofs.Place.{holds-deep}
 use Rattle.table_rules.proofs.Good.{once-size}
 use Rattle.table_rules.proofs.Ascending.{Differ, append-ascending, insert-in, insert-own, insert-old, length-insert, insert-ascending, get-in, ascending-next, map-in, in-map, ascending-distinct}

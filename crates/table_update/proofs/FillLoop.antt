@@ -29,7 +29,7 @@ use Rattle.table_rules.specs.Theorems.{Announced}
 use Rattle.table_rules.proofs.Closed.{announced-room}
 use Rattle.table_rules.proofs.Table.{announced-is}
 use Rattle.table_update.specs.Calls.{announcedWords, builtFrom, buildInto}
-use Rattle.table_update.specs.Fills.{Fills}
+use Rattle.table_update.specs.Needs.{Fills}
 
 -- the bits of route j
 abbrev bitsOf : ℕ → (ℕ → Route) → ℕ → Bits

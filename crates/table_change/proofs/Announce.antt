@@ -11,7 +11,7 @@ use Rattle.table_rules.specs.Announce.{isSame, sink}
 use Rattle.table_rules.specs.declared.Row.{Row}
 use Rattle.table_change.specs.Plan.{planOf, leafInto}
 use Rattle.table_change.specs.declared.sinking.Plan.{Plan}
-use Rattle.table_change.proofs.Finding.{pred-of}
+use Rattle.table_change.proofs.Held.{pred-of}
 
 module _ {S : Type 0} (L : Layout S) (w : ℕ) (ws : S) (n r : ℕ) (q : Route) where
   sink-same : (left : ℕ) → isSame q (L .get ws r) ≡ true

@@ -7,8 +7,8 @@ use native.Mathlib.Omega.{arith}
 use native.Mathlib.Nat.{sub-zero}
 use lib.ListN.{length, take, drop, length-drop, take-append-drop}
 use lib.Seq.{drop-drop, take-add, length-take-le}
-use Rattle.promise.specs.Over.{over, put3}
-use Rattle.promise.proofs.Over.{over-put3}
+use Rattle.promise.specs.Over.{over, storeThree}
+use Rattle.promise.proofs.Over.{over-three}
 use Rattle.runs_rules.specs.Runs.{Run, run, runsFrom, runs, runWords}
 use Rattle.runs_rules.proofs.Runs.{runs-from-to, runs-from-same, runs-from-other, runs-from-all}
 use Rattle.runs_rules.proofs.Listing.{length-run-words}
@@ -40,11 +40,11 @@ leftAfter rs write k lent = cond write (over (runWords (take k rs)) lent) lent
 -- the next run's words
 left-after-put : (rs rest : List Run) (write : Bool) (k first last port : ℕ) (lent : List ℕ)
     → drop k rs ≡ run first last port ∷ rest → (write ≡ true → length rs * 3 ≤ length lent)
-    → cond write (put3 (leftAfter rs write k lent) (k * 3) first last port) (leftAfter rs write k lent) ≡ leftAfter rs write (k + 1) lent
+    → cond write (storeThree (leftAfter rs write k lent) (k * 3) first last port) (leftAfter rs write k lent) ≡ leftAfter rs write (k + 1) lent
 left-after-put rs rest false k first last port lent e room = refl
 left-after-put rs rest true k first last port lent e room =
     let n = length-next rs rest (run first last port) k e in
-    over-put3 (runWords (take k rs)) lent first last port (k * 3)
+    over-three (runWords (take k rs)) lent first last port (k * 3)
     (length-run-words (take k rs) ∙ ap (λ (j : ℕ). j * 3) (length-before rs rest (run first last port) k e))
     (omega (arith, n, room refl))
     ∙ ap (λ (ws : List ℕ). over ws lent)
@@ -116,10 +116,10 @@ module _ (f : ℕ → ℕ) (m : ℕ) where
     -- the run is counted, and written where that is asked
     module _ {last : ℕ} {rest : List Run} (e : drop k (runs f m) ≡ run first last port ∷ rest)
         (room : write ≡ true → length (runs f m) * 3 ≤ length lent) {left′ : List ℕ}
-        (put : left′ ≡ cond write (put3 left (k * 3) first last port) left) where
+        (put : left′ ≡ cond write (storeThree left (k * 3) first last port) left) where
       written-next : left′ ≡ leftAfter (runs f m) write (k + 1) lent
       written-next =
-          put ∙ ap (λ (ws : List ℕ). cond write (put3 ws (k * 3) first last port) ws) (c .written)
+          put ∙ ap (λ (ws : List ℕ). cond write (storeThree ws (k * 3) first last port) ws) (c .written)
           ∙ left-after-put (runs f m) rest write k first last port lent e room
 
       pub counted-ended : (here : ℕ) → first < at → at < m → rest ≡ runsFrom f at at (m - at) → length left′ ≡ length left

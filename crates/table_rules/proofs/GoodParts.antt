@@ -19,7 +19,7 @@ use Rattle.table_rules.specs.declared.Seen.{Seen}
 use Rattle.table_rules.proofs.Holds.{Below}
 use Rattle.table_rules.specs.Walk.{lastSeen, seenBelow}
 use Rattle.table_rules.proofs.Right.{Right, right}
-use Rattle.table_rules.proofs.Reached.{Way, way-reached}
+use Rattle.table_rules.proofs.Reach.{Way, way-reached}
 use Rattle.table_rules.proofs.Place.{pathFirst, path-on, right-valid, right-bits}
 use Rattle.table_rules.proofs.Walk.{beyond, seen-at-by}
 

@@ -8,7 +8,7 @@ use borrow.Author.Tests.{eq-eqb, ne-eqb}
 use Rattle.routes.specs.declared.Route.{Route}
 use Rattle.table_rules.specs.Rows.{Mem, child, routeOf, withRoute}
 use Rattle.bits.specs.Bits.{bitBefore}
-use Rattle.table_rules.specs.Announce.{isSame, isOver, pick, heldAt}
+use Rattle.table_rules.specs.Announce.{isSame, outranksRow, heldAt}
 use Rattle.table_rules.specs.declared.Row.{Row}
 use Rattle.table_change.specs.Plan.{planOf}
 use Rattle.table_change.specs.declared.sinking.Plan.{Plan}
@@ -27,18 +27,18 @@ module _ (w : ℕ) (M : Mem) (q : Route) (r : ℕ) where
   last-held zero h = refl
   last-held (suc k) h = absurd (omega arith)
 
-  over-held : (left : ℕ) → 0 < left → isSame q (M r) ≡ false → isOver (w - left) q (M r) ≡ true → heldAt w M left r q ≡ false
+  outranks-held : (left : ℕ) → 0 < left → isSame q (M r) ≡ false → outranksRow (w - left) q (M r) ≡ true → heldAt w M left r q ≡ false
   unfolding heldAt
-  over-held zero pos e o = absurd (omega arith)
-  over-held (suc k) pos e o = rw (e, o)
+  outranks-held zero pos e o = absurd (omega arith)
+  outranks-held (suc k) pos e o = rw (e, o)
 
-  none-held : (left : ℕ) → 0 < left → isSame q (M r) ≡ false → isOver (w - left) q (M r) ≡ false
+  none-held : (left : ℕ) → 0 < left → isSame q (M r) ≡ false → outranksRow (w - left) q (M r) ≡ false
       → child (M r) (bitBefore (q .value) (left - 1)) ≡ 0 → heldAt w M left r q ≡ false
   unfolding heldAt
   none-held zero pos e o z = absurd (omega arith)
   none-held (suc k) pos e o z = rw (e, o, eq-eqb _ 0 (rw (pred-of k) at z))
 
-  next-held : (left : ℕ) → 0 < left → isSame q (M r) ≡ false → isOver (w - left) q (M r) ≡ false
+  next-held : (left : ℕ) → 0 < left → isSame q (M r) ≡ false → outranksRow (w - left) q (M r) ≡ false
       → (child (M r) (bitBefore (q .value) (left - 1)) ≡ 0 → ⊥)
       → heldAt w M left r q ≡ heldAt w M (left - 1) (child (M r) (bitBefore (q .value) (left - 1))) q
   unfolding heldAt
@@ -59,12 +59,12 @@ module _ (w : ℕ) (M : Mem) (q : Route) (left r : ℕ) (end : Bool) (inv : held
   pub held-last : left ≤ 0 → a ≡ end
   held-last h = same ∙ ap (isSame q) is ∙ sym (last-held w M q r left h) ∙ inv
 
-  module _ (pos : 0 < left) (other : a ≡ false) (depth : ℕ) (d : depth ≡ w - left) (o : Bool) (over : o ≡ isOver depth q x) where
-    o-is : (v : Bool) → o ≡ v → isOver (w - left) q (M r) ≡ v
-    o-is v e = ap₂ (λ (j : ℕ) (y : Row). isOver j q y) (sym d) (sym is) ∙ sym over ∙ e
+  module _ (pos : 0 < left) (other : a ≡ false) (depth : ℕ) (d : depth ≡ w - left) (o : Bool) (over : o ≡ outranksRow depth q x) where
+    o-is : (v : Bool) → o ≡ v → outranksRow (w - left) q (M r) ≡ v
+    o-is v e = ap₂ (λ (j : ℕ) (y : Row). outranksRow j q y) (sym d) (sym is) ∙ sym over ∙ e
 
     pub held-over : o ≡ true → false ≡ end
-    held-over e = sym (over-held w M q r left pos (a-is false other) (o-is true e)) ∙ inv
+    held-over e = sym (outranks-held w M q r left pos (a-is false other) (o-is true e)) ∙ inv
 
     module _ (under : o ≡ false) (b : Bool) (bit : b ≡ bitBefore (q .value) (left - 1)) (c : ℕ) (kid : c ≡ child x b) where
       c-is : c ≡ child (M r) (bitBefore (q .value) (left - 1))
@@ -80,13 +80,13 @@ module _ (w : ℕ) (M : Mem) (q : Route) (left r : ℕ) (end : Bool) (inv : held
 
 -- the plan from the code's values
 pub plan-is : (w : ℕ) (x : Row) (q : Route) (k d : ℕ) (over : Bool) (lower : Route) (upper : Row) (right : Bool) (c : ℕ)
-    → d ≡ w - suc k → over ≡ isOver d q x → lower ≡ pick over (routeOf x) q → upper ≡ withRoute x (pick over q (routeOf x))
+    → d ≡ w - suc k → over ≡ outranksRow d q x → lower ≡ cond over (routeOf x) q → upper ≡ withRoute x (cond over q (routeOf x))
     → right ≡ bitBefore (lower .value) k → c ≡ child x right
     → _≡_ {A = Plan} (record { upper = upper; lower = lower; right = right; child = c }) (planOf w x q k)
 plan-is w x q k d over lower upper right c ed eo el eu er ec =
-    let o : over ≡ isOver (w - suc k) q x = eo ∙ ap (λ (j : ℕ). isOver j q x) ed in
-    let l : lower ≡ pick (isOver (w - suc k) q x) (routeOf x) q = el ∙ ap (λ (b : Bool). pick b (routeOf x) q) o in
-    let u : upper ≡ withRoute x (pick (isOver (w - suc k) q x) q (routeOf x)) = eu ∙ ap (λ (b : Bool). withRoute x (pick b q (routeOf x))) o in
-    let r : right ≡ bitBefore (pick (isOver (w - suc k) q x) (routeOf x) q .value) k = er ∙ ap (λ (z : Route). bitBefore (z .value) k) l in
-    let e : c ≡ child x (bitBefore (pick (isOver (w - suc k) q x) (routeOf x) q .value) k) = ec ∙ ap (child x) r in
+    let o : over ≡ outranksRow (w - suc k) q x = eo ∙ ap (λ (j : ℕ). outranksRow j q x) ed in
+    let l : lower ≡ cond (outranksRow (w - suc k) q x) (routeOf x) q = el ∙ ap (λ (b : Bool). cond b (routeOf x) q) o in
+    let u : upper ≡ withRoute x (cond (outranksRow (w - suc k) q x) q (routeOf x)) = eu ∙ ap (λ (b : Bool). withRoute x (cond b q (routeOf x))) o in
+    let r : right ≡ bitBefore (cond (outranksRow (w - suc k) q x) (routeOf x) q .value) k = er ∙ ap (λ (z : Route). bitBefore (z .value) k) l in
+    let e : c ≡ child x (bitBefore (cond (outranksRow (w - suc k) q x) (routeOf x) q .value) k) = ec ∙ ap (child x) r in
     λ i. record { upper = u i; lower = l i; right = r i; child = e i }

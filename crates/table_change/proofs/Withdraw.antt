@@ -8,12 +8,12 @@ use borrow.Author.Tests.{eq-eqb, ne-eqb, lt-ltb, le-ltb}
 use Rattle.routes.specs.declared.Route.{Route}
 use Rattle.table_rules.specs.Rows.{Mem, Layout, child, routeOf, withRoute, withChild}
 use Rattle.bits.specs.Bits.{bitBefore}
-use Rattle.table_rules.specs.Announce.{isSame, pick}
+use Rattle.table_rules.specs.Announce.{isSame}
 use Rattle.table_rules.specs.Withdraw.{noRoute, orRoute, firstRoute, bestAt, bestChild, bestBelow, isLast, Cut, cut, relink}
 use Rattle.table_rules.specs.declared.Row.{Row}
 use Rattle.table_change.specs.Refill.{refillOf, refillAt, cutAs}
 use Rattle.table_change.specs.declared.refilling.Refill.{Refill}
-use Rattle.table_change.proofs.Finding.{pred-of}
+use Rattle.table_change.proofs.Held.{pred-of}
 
 -- the best route of a child's rows
 module _ (w : ℕ) (M : Mem) (left c : ℕ) (x : Row) (is : x ≡ M c) (r : Route) where

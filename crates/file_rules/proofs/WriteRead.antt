@@ -21,7 +21,7 @@ use Rattle.file_rules.specs.declared.Spared.{Spared}
 use Rattle.file_rules.proofs.Bytes.{length-digits, number-digits}
 use Rattle.file_rules.proofs.InOrder.{length-in-order-le, in-order-split}
 use Rattle.file_rules.proofs.Sound.{Sound, none-fault}
-use Rattle.file_rules.proofs.Accepted.{length-head, length-route-bytes}
+use Rattle.file_rules.proofs.Whole.{length-head, length-route-bytes}
 
 -- the bytes of route r stand at an offset of a file
 record Stands (w : ℕ) (r : Route) (file : List ℕ) (at : ℕ) : Type 0 where

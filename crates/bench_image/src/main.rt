@@ -1,9 +1,9 @@
 // Bench examples 9, 10 and 11 of the rules, built from their routes and looked up; builds that are refused; and images damaged in each
 // way that a lookup refuses. A build's line is `claim`, number, place, nodes, ports; a lookup's is `claim`, number, port, nodes read.
 use image_build::build;
-use image_lookup::Found;
 use image_lookup::lookup;
 use libc::STDOUT_FILENO;
+use routes::found::Found;
 
 // "Routes 01, 10, 000, 001, 111, 1100, 1101 with ports 1..7", in list order.
 fn seven() -> [u32; 21] {

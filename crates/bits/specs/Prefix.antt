@@ -46,3 +46,11 @@ middle w v l = first w v l + span w (l + 1)
 -- "strictly ascending by value, then by length"
 abbrev pub precedes : ℕ → ℕ → ℕ → ℕ → Bool
 precedes v l v′ l′ = ltb v v′ || (eqb v v′ && ltb l l′)
+
+-- the prefixes (v, l) and (v′, l′) are one
+abbrev pub samePrefix : ℕ → ℕ → ℕ → ℕ → Bool
+samePrefix v l v′ l′ = eqb l l′ && eqb v v′
+
+-- (v, l) goes before (v′, l′): it is longer, or as long and of smaller value
+abbrev pub aheadOf : ℕ → ℕ → ℕ → ℕ → Bool
+aheadOf v l v′ l′ = ltb l′ l || (eqb l′ l && ltb v v′)

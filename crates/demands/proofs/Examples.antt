@@ -12,7 +12,7 @@ use Rattle.bits.specs.Bits.{Bits, bits}
 use Rattle.trie.specs.Scan.{longest, plainScan}
 use Rattle.trie.specs.Routes.{Route as BitRoute}
 use Rattle.routes.specs.Refusals.{accepted}
-use Rattle.routes.specs.Routes.{route, routeAt}
+use Rattle.routes.specs.Routes.{route, routeAt, noRoute}
 use Rattle.lists.specs.Numbered.{listOf}
 use Rattle.routes.specs.Check.{faultAt, firstFault, routesCheck, listCheck}
 use Rattle.routes.specs.declared.Route.{Route}
@@ -20,7 +20,7 @@ use Rattle.table_rows.specs.Words.{rowAt, storeRow, fiveWords}
 use Rattle.table_rules.specs.Announce.{heldAt}
 use Rattle.table_rules.specs.Check.{seen, noRows, seenAt, isGood}
 use Rattle.demands.proofs.Steps.{seen-row, best-none, best-own, best-below, cut-on, cut-last, relink-on, relink-here}
-use Rattle.table_rules.specs.Withdraw.{noRoute, cut, relink, closeGap, withdrawn}
+use Rattle.table_rules.specs.Withdraw.{cut, relink, closeGap, withdrawn}
 use Rattle.table_rules.specs.Lookup.{walk, lookupIn}
 use Rattle.table_update.specs.Calls.{withdrawIn, withdrawInto}
 use Rattle.image_rules.specs.Image.{someLonger, imagePaths, imageNodes, imagePorts}

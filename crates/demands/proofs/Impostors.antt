@@ -10,7 +10,7 @@ use Rattle.lists.proofs.Tests.{both}
 use lib.Count.{ones, onesIn}
 use lib.ListN.{getD, replicate}
 use Rattle.promise.specs.Over.{Outcome, outcome}
-use Rattle.routes.specs.Refusals.{accepted}
+use Rattle.routes.specs.Refusals.{accepted, found}
 use Rattle.routes.specs.Routes.{routeAt, Words}
 use Rattle.routes.specs.Check.{firstFault, routesCheck, listCheck}
 use Rattle.routes.specs.Scan.{scanOf, listScan}
@@ -18,16 +18,16 @@ use Rattle.routes.specs.declared.Answer.{Answer}
 use Rattle.file_rules.specs.Theorems.{emptyFile}
 use Rattle.file_rules.proofs.Trips.{empty-file}
 use Rattle.table_rows.specs.Words.{capacity, rowAt, storeRow, fiveWords}
-use Rattle.table_rules.specs.Lookup.{found, walk, lookupIn}
+use Rattle.table_rules.specs.Lookup.{walk, lookupIn}
 use Rattle.table_rules.specs.Announce.{heldAt, sink, announced}
 use Rattle.table_rules.specs.Withdraw.{withdrawn}
 use Rattle.table_rules.specs.Check.{seen, noRows, seenAt, isGood}
 use Rattle.table_rules.specs.Save.{saveInto}
-use Rattle.table_rules.specs.declared.Found.{Found}
+use Rattle.routes.specs.declared.found.Found.{Found}
 use Rattle.table_rules.proofs.Lookup.{lookup-is-scan}
 use Rattle.table_update.specs.Calls.{announceIn, announceInto, withdrawIn, withdrawInto, buildInto}
 use Rattle.image_rules.specs.Lookup as breadth
-use Rattle.image_rules.specs.Lookup.{Looked, answered, lookupWords}
+use Rattle.image_rules.specs.Lookup.{lookupWords}
 use Rattle.image_build.specs.Build.{Left}
 use Rattle.runs_rules.specs.Runs.{Run, run, Lists}
 use Rattle.runs_rules.specs.Listing.{writeRuns}
@@ -100,15 +100,15 @@ onOtherPort = image (3 ∷ 0 ∷ 0 ∷ []) (1 ∷ 1 ∷ []) refl
 abbrev onTwoNodes : ImageCall
 onTwoNodes = image (1 ∷ 1 ∷ 0 ∷ 3 ∷ 0 ∷ 1 ∷ []) (0 ∷ 0 ∷ 0 ∷ []) refl
 
-image-found : imageLookupCall onImage ≡ answered 0 1
+image-found : imageLookupCall onImage ≡ found 0 1
 unfolding lookupWords breadth.walk ones onesIn
 image-found = refl
 
-other-port-found : imageLookupCall onOtherPort ≡ answered 1 1
+other-port-found : imageLookupCall onOtherPort ≡ found 1 1
 unfolding lookupWords breadth.walk ones onesIn
 other-port-found = refl
 
-two-nodes-found : imageLookupCall onTwoNodes ≡ answered 0 2
+two-nodes-found : imageLookupCall onTwoNodes ≡ found 0 2
 unfolding lookupWords breadth.walk ones onesIn
 two-nodes-found = refl
 
@@ -133,7 +133,7 @@ impostors-stopped = record {
   fixed-port = λ f meets fixed.
       omega (arith, one-number lookupCall f meets (λ x. x .port) onFree onOne (found 0 0) (found 1 1) (fixed .0) none-found one-found (fixed .1 onFree) (fixed .1 onOne));
   fixed-port-of-image = λ f meets fixed.
-      omega (arith, one-number imageLookupCall f meets (λ x. x .port) onImage onOtherPort (answered 0 1) (answered 1 1) (fixed .0) image-found other-port-found (fixed .1 onImage) (fixed .1 onOtherPort));
+      omega (arith, one-number imageLookupCall f meets (λ x. x .port) onImage onOtherPort (found 0 1) (found 1 1) (fixed .0) image-found other-port-found (fixed .1 onImage) (fixed .1 onOtherPort));
   untouched-by-announcing = λ f meets leaves.
       omega (arith, ap portWord (sym (leaves onFree) ∙ ap (λ (o : Outcome Answer). o .lent) (meets onFree ∙ announced-free)));
   untouched-by-withdrawing = λ f meets leaves.
@@ -145,7 +145,7 @@ impostors-stopped = record {
   invented-rows = λ f meets invents.
       omega (arith, one-number lookupCall f meets (λ x. x .reads) onFree onOne (found 0 0) (found 1 1) (invents .0) none-found one-found (invents .1 onFree) (invents .1 onOne));
   invented-nodes = λ f meets invents.
-      omega (arith, one-number imageLookupCall f meets (λ x. x .reads) onImage onTwoNodes (answered 0 1) (answered 0 2) (invents .0) image-found two-nodes-found (invents .1 onImage) (invents .1 onTwoNodes));
+      omega (arith, one-number imageLookupCall f meets (λ x. x .reads) onImage onTwoNodes (found 0 1) (found 0 2) (invents .0) image-found two-nodes-found (invents .1 onImage) (invents .1 onTwoNodes));
 }
 
 pub rows-read-are-path : RowsReadArePath
@@ -154,7 +154,7 @@ rows-read-are-path f meets x S good small =
 
 pub nodes-read-are-passed : NodesReadArePassed
 nodes-read-are-passed f meets x list nodes ports fit small z ns ps =
-    ap (λ (y : Looked). y .reads)
+    ap (λ (y : Found). y .reads)
     (meets x ∙ ap₂ (λ (a b : List ℕ). lookupWords 32 (x .stride) a b (x .address)) ns ps
     ∙ demand-2 .image (x .stride) list nodes ports (x .address) fit small z)
 
@@ -194,5 +194,5 @@ each-accepts = record {
   table-save = ([], 0, [], refl);
   table-runs = ([], 0, replicate 3 0, ap (λ (o : Outcome Answer). o .answer .number) no-rows-listed ∙ one-run-fits);
   image-build = (4, [], replicate 3 0, replicate 16 0, ap (λ (x : Left). x .built .number) eleven);
-  image-lookup = (onImage, ap (λ (x : Looked). x .number) image-found);
+  image-lookup = (onImage, ap (λ (x : Found). x .number) image-found);
 }

@@ -10,12 +10,13 @@ use lib.ListN.{length, getD}
 use borrow.Author.Tests.{ne-eqb, eqb-true, eqb-false}
 use Rattle.promise.specs.Over.{over}
 use Rattle.bits.specs.Bitmap.{slotBit}
-use Rattle.routes.specs.Refusals.{noRoom, notInOrder, wrongStride, lastPort}
+use Rattle.routes.specs.Refusals.{noRoom, notInOrder, wrongStride, lastPort, found, lost}
 use Rattle.routes.specs.Check.{listCheck}
 use Rattle.routes.specs.declared.Answer.{Answer}
 use Rattle.image_rules.specs.Node.{nodeCount, isNode, bitmapOf}
 use Rattle.image_rules.specs.Image.{imagePaths, imageNodes, imagePorts}
-use Rattle.image_rules.specs.Lookup.{Looked, answered, refusedAt, addressSlot, leafOf, childAt, leafAt, walk, isStride, lookupWords}
+use Rattle.image_rules.specs.Lookup.{addressSlot, leafOf, childAt, leafAt, walk, isStride, lookupWords}
+use Rattle.routes.specs.declared.found.Found.{Found}
 use Rattle.image_build.specs.Build.{Left, left, refusedBuild, doneBuild, listRoutes, imageInto, buildImage}
 use Rattle.demands.specs.Lamp.{shows, done}
 use Rattle.demands.specs.Checks.{imageChecks, nodeChecks, imageLookupChecks}
@@ -43,7 +44,7 @@ building nodes ports = record {
 }
 
 abbrev pub searching : View
-searching = record { Seen = Looked; number = λ x. x .number; place = λ _. 0; Kept = λ x. x .port ≡ 0 }
+searching = record { Seen = Found; number = λ x. x .number; place = λ _. 0; Kept = λ x. x .port ≡ 0 }
 
 refused-on : (nodes ports : List ℕ) (m p : ℕ) → On (building nodes ports) (shows m p) (left (refusedBuild m p) nodes ports)
 refused-on nodes ports m p = record { exact = (refl, refl); kept = λ _. (refl, refl, refl, refl) }
@@ -66,7 +67,7 @@ image-build-refuses w s list nodes ports =
     (record { exact = (refl, refl); kept = λ wrong. absurd (wrong refl) }) (refused-on nodes ports noRoom 0)))
     (refused-on nodes ports wrongStride 0)
 
-lost-on : (m reads : ℕ) → On searching (shows m 0) (refusedAt m reads)
+lost-on : (m reads : ℕ) → On searching (shows m 0) (lost m reads)
 lost-on m reads = record { exact = (refl, refl); kept = λ _. refl }
 
 tells-node : (nodes : List ℕ) (i : ℕ) → Tells (isNode nodes i) ((i ≡ 0) ⊎ (nodeCount nodes < i))
@@ -86,13 +87,13 @@ nodes-refuse s nodes ports a (suc k) i reads =
     let below = walk s nodes ports a k (childAt (2 ^ s) nodes i (addressSlot s a k)) (reads + 1) in
     let slot = cond (eqb bit 1) (leafAt ports leaf (reads + 1)) below in
     on-test searching (isNode nodes i) _ (tells-node nodes i) notInOrder 0 _
-    (λ b. cond b (cond (ltb map (2 ^ (2 ^ s))) slot (refusedAt notInOrder (reads + 1))) (refusedAt notInOrder reads))
-    (on-test searching (ltb map (2 ^ (2 ^ s))) _ (tells-lt map (2 ^ (2 ^ s))) notInOrder 0 _ (λ b. cond b slot (refusedAt notInOrder (reads + 1)))
+    (λ b. cond b (cond (ltb map (2 ^ (2 ^ s))) slot (lost notInOrder (reads + 1))) (lost notInOrder reads))
+    (on-test searching (ltb map (2 ^ (2 ^ s))) _ (tells-lt map (2 ^ (2 ^ s))) notInOrder 0 _ (λ b. cond b slot (lost notInOrder (reads + 1)))
     (on-whether searching (eqb bit 1) (bit ≡ 1) _ _ (λ b. cond b (leafAt ports leaf (reads + 1)) below) (eqb-true bit 1) (eqb-false bit 1)
     (on-test searching (ltb leaf (length ports)) _ (tells-lt leaf (length ports)) notInOrder 0 _
-    (λ b. cond b (cond (leb port lastPort) (answered port (reads + 1)) (refusedAt notInOrder (reads + 1))) (refusedAt notInOrder (reads + 1)))
+    (λ b. cond b (cond (leb port lastPort) (found port (reads + 1)) (lost notInOrder (reads + 1))) (lost notInOrder (reads + 1)))
     (on-test searching (leb port lastPort) _ (tells-le port lastPort) notInOrder 0 done
-    (λ b. cond b (answered port (reads + 1)) (refusedAt notInOrder (reads + 1)))
+    (λ b. cond b (found port (reads + 1)) (lost notInOrder (reads + 1)))
     (record { exact = (refl, refl); kept = λ wrong. absurd (wrong refl) }) (lost-on notInOrder (reads + 1)))
     (lost-on notInOrder (reads + 1)))
     (nodes-refuse s nodes ports a k (childAt (2 ^ s) nodes i (addressSlot s a k)) (reads + 1)))
@@ -102,5 +103,5 @@ nodes-refuse s nodes ports a (suc k) i reads =
 pub image-lookup-refuses : (w s : ℕ) (nodes ports : List ℕ) (a : ℕ) → On searching (imageLookupChecks w s nodes ports a) (lookupWords w s nodes ports a)
 unfolding lookupWords
 image-lookup-refuses w s nodes ports a =
-    on-test searching (isStride s) _ (tells-stride s) wrongStride 0 _ (λ b. cond b (walk s nodes ports a (w / s) 1 0) (refusedAt wrongStride 0))
+    on-test searching (isStride s) _ (tells-stride s) wrongStride 0 _ (λ b. cond b (walk s nodes ports a (w / s) 1 0) (lost wrongStride 0))
     (nodes-refuse s nodes ports a (w / s) 1 0) (lost-on wrongStride 0)

@@ -12,7 +12,7 @@ use Rattle.promise.specs.Over.{Outcome, outcome, over}
 use Rattle.bits.specs.Bits.{prefixBits, bitBefore}
 use Rattle.bits.specs.Prefix.{span, Valid, clear}
 use Rattle.trie.specs.Routes.{Routes}
-use Rattle.routes.specs.Refusals.{longPrefix, spareBits, wrongPort, noRoom, notHeld, notInOrder, refused, accepted}
+use Rattle.routes.specs.Refusals.{longPrefix, spareBits, wrongPort, noRoom, notHeld, notInOrder, refused, accepted, found, lost}
 use Rattle.routes.specs.Routes.{routeAt, routeCount, wordsOf}
 use Rattle.routes.specs.Check.{isPort, prefixFault}
 use Rattle.routes.specs.declared.Answer.{Answer}
@@ -24,8 +24,8 @@ use Rattle.table_rules.specs.Check.{isGood}
 use Rattle.table_rules.specs.Save.{saved, saveInto}
 use Rattle.table_rules.specs.Announce.{isHeld}
 use Rattle.table_rules.specs.Withdraw.{withdrawn}
-use Rattle.table_rules.specs.Lookup.{wrongRow, endsAt, betterOf, found, lost, walk, lookupIn}
-use Rattle.table_rules.specs.declared.Found.{Found}
+use Rattle.table_rules.specs.Lookup.{wrongRow, endsAt, betterOf, walk, lookupIn}
+use Rattle.routes.specs.declared.found.Found.{Found}
 use Rattle.table_rules.proofs.Table.{held-is}
 use Rattle.table_rules.proofs.Good.{check-is-good}
 use Rattle.table_lookup.specs.Good.{tableCheck}
@@ -181,12 +181,12 @@ looking = record { Seen = Found; number = λ x. x .number; place = λ _. 0; Kept
 found-on : (port reads : ℕ) → On looking done (found port reads)
 found-on port reads = record { exact = (refl, refl); kept = λ wrong. absurd (wrong refl) }
 
-lost-on : (reads : ℕ) → On looking (shows notInOrder 0) (lost reads)
+lost-on : (reads : ℕ) → On looking (shows notInOrder 0) (lost notInOrder reads)
 lost-on reads = record { exact = (refl, refl); kept = λ _. refl }
 
 -- a row read: wrong, or not
 on-row : (b : Bool) (rest : Verdict) (reads : ℕ) (x : Found) → On looking rest x
-    → On looking (refuse notInOrder 0 (b ≡ true) rest) (cond b (lost reads) x)
+    → On looking (refuse notInOrder 0 (b ≡ true) rest) (cond b (lost notInOrder reads) x)
 on-row true rest reads x next = record { exact = inl (refl, (refl, refl)); kept = λ _. refl }
 on-row false rest reads x next = record { exact = inr (false≢true, next .exact); kept = next .kept }
 
@@ -218,6 +218,6 @@ lookup-refuses w rows n a =
     (rows-refuse w (rowAt rows) n a w 0 0 0))
   where
     over-full : (b : Bool) → (b ≡ true → capacity rows < n) → (b ≡ false → n ≤ capacity rows) → (rest : Verdict) (x : Found) → On looking rest x
-        → On looking (refuse notInOrder 0 (capacity rows < n) rest) (cond b (lost 0) x)
+        → On looking (refuse notInOrder 0 (capacity rows < n) rest) (cond b (lost notInOrder 0) x)
     over-full true is isnt rest x next = record { exact = inl (is refl, (refl, refl)); kept = λ _. refl }
     over-full false is isnt rest x next = record { exact = inr (λ h. omega (arith, isnt refl), next .exact); kept = next .kept }

@@ -12,7 +12,8 @@ use Rattle.table_rules.specs.Lookup.{wrongRow}
 use Rattle.bits.specs.Bits.{bitBefore}
 use Rattle.table_rules.specs.Announce.{isSame}
 use Rattle.table_rules.specs.Check.{noRows, seenJoin, pathOn, seenAt}
-use Rattle.table_rules.specs.Withdraw.{noRoute, orRoute, firstRoute, bestAt, bestChild, isLast, cut, relink}
+use Rattle.table_rules.specs.Withdraw.{orRoute, firstRoute, bestAt, bestChild, isLast, cut, relink}
+use Rattle.routes.specs.Routes.{noRoute}
 use Rattle.table_rules.specs.declared.Seen.{Seen}
 
 -- the best of a subtree, and what the check has seen of it

@@ -9,7 +9,7 @@ use Rattle.bits.specs.Bits.{bits}
 use Rattle.trie.specs.Routes.{Routes}
 use Rattle.trie.specs.Scan.{scan}
 use Rattle.trie.specs.Trie.{reads}
-use Rattle.routes.specs.Refusals.{accepted}
+use Rattle.routes.specs.Refusals.{accepted, found}
 use Rattle.routes.specs.Routes.{routeAt, routeCount, Words}
 use Rattle.routes.specs.Check.{listCheck}
 use Rattle.routes.specs.Scan.{scanOf, listScan}
@@ -19,13 +19,13 @@ use Rattle.file_rules.specs.Bytes.{Bytes}
 use Rattle.file_rules.specs.Calls.{readFile, writeFile}
 use Rattle.table_rows.specs.Words.{capacity, rowAt, fiveWords}
 use Rattle.table_rules.specs.Holds.{GoodFor}
-use Rattle.table_rules.specs.Lookup.{found, lookupIn}
+use Rattle.table_rules.specs.Lookup.{lookupIn}
 use Rattle.table_rules.specs.Save.{saveInto}
 use Rattle.table_lookup.specs.Good.{tableCheck}
 use Rattle.table_update.specs.Calls.{announceInto, withdrawInto, buildInto}
 use Rattle.table_update.specs.History.{Call, Table, ran, portAfter, AllFit}
 use Rattle.image_rules.specs.Image.{passed}
-use Rattle.image_rules.specs.Lookup.{answered, lookupWords}
+use Rattle.image_rules.specs.Lookup.{lookupWords}
 use Rattle.image_build.specs.Build as build
 use Rattle.image_build.specs.Build.{Left, buildImage}
 use Rattle.runs_rules.specs.Runs.{Run, Lists, runWords}
@@ -109,7 +109,7 @@ pub record Demand2 : Type 0 where
       (s : ℕ) (list nodes ports : List ℕ) (a : ℕ) → Words 32 list → a < 2 ^ 32 → buildImage 32 s list nodes ports .built .number ≡ 0
       → let built : Left = buildImage 32 s list nodes ports in
       lookupWords 32 s (built .nodes) (built .ports) a
-      ≡ answered (scanOf 32 (routeAt list) (routeCount list) a) (passed (build.listRoutes 32 list) s (32 / s) [] (bits 32 a) + 1)
+      ≡ found (scanOf 32 (routeAt list) (routeCount list) a) (passed (build.listRoutes 32 list) s (32 / s) [] (bits 32 a) + 1)
   pub read-written :
       (list file lent : List ℕ) → Words 32 list → writeFile 32 list file .answer .number ≡ 0 → length list ≤ length lent
       → readFile 32 (take (writeFile 32 list file .answer .count) (writeFile 32 list file .lent)) lent

@@ -8,9 +8,9 @@ use Rattle.routes.specs.Routes.{routeAt}
 use Rattle.routes.specs.declared.Answer.{Answer}
 use Rattle.table_rows.specs.Words.{capacity, rowAt, fiveWords}
 use Rattle.table_rules.specs.Lookup.{lookupIn}
-use Rattle.table_rules.specs.declared.Found.{Found}
+use Rattle.routes.specs.declared.found.Found.{Found}
 use Rattle.table_update.specs.Calls.{withdrawInto}
-use Rattle.image_rules.specs.Lookup.{Looked, lookupWords}
+use Rattle.image_rules.specs.Lookup.{lookupWords}
 use Rattle.image_build.specs.Build.{Left, buildImage}
 use Rattle.runs_rules.specs.Runs.{runWords, runs}
 use Rattle.runs_rules.specs.Listing.{listed}
@@ -74,7 +74,7 @@ imageWords x = (x .built .number ∷ x .built .nodes ∷ x .built .ports ∷ [])
 -- a lookup in it: number, port, nodes read
 abbrev pub foundIn : ℕ → ℕ → Left → List ℕ
 foundIn s a x =
-    let y : Looked = lookupWords 32 s (x .nodes) (x .ports) a in
+    let y : Found = lookupWords 32 s (x .nodes) (x .ports) a in
     y .number ∷ y .port ∷ y .reads ∷ []
 
 -- "10.0.0.0/9 and 10.128.0.0/9, both port 7: three runs"

@@ -16,11 +16,11 @@ use Rattle.table_rows.specs.Words.{capacity, rowAt, fiveWords}
 use Rattle.table_rules.specs.Holds.{GoodFor}
 use Rattle.table_rules.specs.Lookup.{lookupIn}
 use Rattle.table_rules.specs.Save.{saveInto}
-use Rattle.table_rules.specs.declared.Found.{Found}
+use Rattle.routes.specs.declared.found.Found.{Found}
 use Rattle.table_lookup.specs.Good.{tableCheck}
 use Rattle.table_update.specs.Calls.{announceInto, withdrawInto, buildInto}
 use Rattle.image_rules.specs.Image.{passed}
-use Rattle.image_rules.specs.Lookup.{Looked, lookupWords}
+use Rattle.image_rules.specs.Lookup.{lookupWords}
 use Rattle.image_build.specs.Build.{listRoutes, buildImage}
 use Rattle.runs_rules.specs.Listing.{listRuns}
 use Rattle.table_runs.specs.TableRuns.{tableRuns}
@@ -51,7 +51,7 @@ withdrawCall x = withdrawInto fiveWords 32 (x .rows) (x .n) (x .value) (x .len)
 abbrev pub lookupCall : TableCall → Found
 lookupCall x = lookupIn 32 (capacity (x .rows)) (rowAt (x .rows)) (x .n) (x .value)
 
-abbrev pub imageLookupCall : ImageCall → Looked
+abbrev pub imageLookupCall : ImageCall → Found
 imageLookupCall x = lookupWords 32 (x .stride) (x .nodes) (x .ports) (x .address)
 
 -- no function that answers what the promise says is such an impostor
@@ -116,7 +116,7 @@ RowsReadArePath =
 -- "on a built image it is one more than the non-leaf slots passed"
 abbrev pub NodesReadArePassed : Type 0
 NodesReadArePassed =
-    (f : ImageCall → Looked) → ((x : ImageCall) → f x ≡ imageLookupCall x)
+    (f : ImageCall → Found) → ((x : ImageCall) → f x ≡ imageLookupCall x)
     → (x : ImageCall) (list nodes ports : List ℕ) → Words 32 list → x .address < 2 ^ 32
     → buildImage 32 (x .stride) list nodes ports .built .number ≡ 0
     → x .nodes ≡ buildImage 32 (x .stride) list nodes ports .nodes → x .ports ≡ buildImage 32 (x .stride) list nodes ports .ports

@@ -6,7 +6,7 @@ use native.Mathlib.Omega.{arith}
 use lib.ListN.{length, length-set}
 use Rattle.promise.specs.Over.{over, storeThree}
 use Rattle.promise.proofs.Over.{over-three}
-use Rattle.routes.specs.Routes.{routeWords}
+use Rattle.routes.specs.Routes.{routeWords, storeRoute}
 use Rattle.routes.specs.declared.Route.{Route}
 use Rattle.file_rules.specs.File.{prefixBytes, lenAt, readAt, placeOf, fileRoute, inOrder}
 use Rattle.file_rules.specs.Check.{Entire}
@@ -16,6 +16,7 @@ use Rattle.file_rules.proofs.InOrder.{in-order-more}
 use Rattle.file_rules.proofs.Sound.{place-more, fault-none}
 use Rattle.file_rules.proofs.Words.{length-list}
 use Rattle.file_read.specs.Needs.{FitsList}
+use Rattle.routes.proofs.Words.{store-whole}
 
 -- i of n routes are written, and the next one is at an offset
 pub record Filled (w : ℕ) (file list₀ : List ℕ) (n : ℕ) (list : List ℕ) (at i : ℕ) : Type 0 where
@@ -40,15 +41,15 @@ module _ (w : ℕ) (file list₀ : List ℕ) (n : ℕ) (fits : FitsList w file l
       omega (arith, filled-entire h .uncut, e)
 
   pub filled-more : i < n → (x : Spared) (list′ : List ℕ) (k : ℕ) → x ≡ readAt w file at
-      → list′ ≡ storeThree list (i * 3) (x .route .value) (x .route .len) (x .route .port) → k ≡ prefixBytes (x .route .len)
+      → list′ ≡ storeRoute list i (x .route) → k ≡ prefixBytes (x .route .len)
       → Filled w file list₀ n list′ (at + (k + 3)) (i + 1)
   unfolding readAt
   filled-more h x list′ k x-is list-is k-is = record {
     passed = omega arith;
     at-place = ap₂ (λ (p q : ℕ). p + (q + 3)) (so .at-place) (k-is ∙ ap (λ (r : Route). prefixBytes (r .len)) route-is) ∙ sym (place-more file i);
-    same = ap length list-is ∙ simp length-set (so .same);
+    same = ap length stored ∙ simp length-set (so .same);
     written =
-        list-is ∙ ap (λ (l : List ℕ). storeThree l (i * 3) (x .route .value) (x .route .len) (x .route .port)) (so .written)
+        stored ∙ ap (λ (l : List ℕ). storeThree l (i * 3) (x .route .value) (x .route .len) (x .route .port)) (so .written)
         ∙ over-three (listOfRoutes R i) list₀ (x .route .value) (x .route .len) (x .route .port) (i * 3) (length-list R i) (omega (arith, fits .room))
         ∙ ap (λ (r : Route). over (listOfRoutes R i ++ routeWords r) list₀) route-is
         ∙ ap (λ (l : List ℕ). over l list₀) (sym (in-order-more routeWords R i));
@@ -56,6 +57,9 @@ module _ (w : ℕ) (file list₀ : List ℕ) (n : ℕ) (fits : FitsList w file l
     where
       R : ℕ → Route
       R = fileRoute w file
+
+      stored : list′ ≡ storeThree list (i * 3) (x .route .value) (x .route .len) (x .route .port)
+      stored = list-is ∙ store-whole list i (x .route) (omega (arith, fits .room, so .same))
 
       route-is : x .route ≡ R i
       route-is = ap (λ (y : Spared). y .route) (x-is ∙ ap (readAt w file) (so .at-place))

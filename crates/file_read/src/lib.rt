@@ -2,7 +2,7 @@
 ghost use mathlib.Core.Path.{_≡_};
 ghost use Prim.Native.Nat.{_+_, _*_, _≤_};
 ghost use lib.ListN.{length};
-ghost use Rattle.promise.specs.Over.{over, storeThree, outcome};
+ghost use Rattle.promise.specs.Over.{over, outcome};
 ghost use Rattle.file_rules.specs.File.{fileRoute};
 ghost use Rattle.file_rules.specs.Check.{headFault, fileCheck};
 ghost use Rattle.file_rules.specs.Calls.{listOfRoutes, readFile};
@@ -11,11 +11,12 @@ use file_rules::HEAD_SIZE;
 use file_rules::VERSION;
 use file_rules::prefix_bytes;
 use routes::Answer;
-use routes::Route;
+use routes::ROUTE_SIZE;
 use routes::refusal::NO_ROOM;
 use routes::refusal::SHORT_FILE;
 use routes::refusal::WRONG_SIZE;
 use routes::refusal::WRONG_VERSION;
+use routes::store_route;
 use step::Cursor;
 use step::Step;
 use step::number_at;
@@ -67,17 +68,6 @@ fn check_file(file: &[u8]) -> Answer
     Answer::accepted(c.count as u32)
 }
 
-// Stores the three words of route i.
-fn put_words(list: &mut [u32], i: usize, r: Route)
-    requires { ⌜ i * 3 + 3 ≤ length (now list) ⌝ }
-    ensures { λ _. ⌜ now (list .exit) ≡ storeThree (now (list .entry)) (i * 3) (r .value) (r .len) (r .port) ⌝ }
-{
-    let row = i * 3;
-    list[row] = r.value;
-    list[row + 1] = r.len;
-    list[row + 2] = r.port;
-}
-
 // Writes the routes of a file that the check accepts.
 fn fill_list(file: &[u8], list: &mut [u32], n: usize)
     requires { ⌜ FitsList 32 (now file) (now list) n ⌝ }
@@ -88,7 +78,7 @@ fn fill_list(file: &[u8], list: &mut [u32], n: usize)
     while i < n {
         let x = read_at(file, at);
         let r = x.route;
-        put_words(list, i, r);
+        store_route(list, i, r);
         at += prefix_bytes(r.len) + 3;
         i += 1;
     }
@@ -104,7 +94,7 @@ pub fn read_file(file: &[u8], list: &mut [u32]) -> Answer
         return checked;
     }
     let n = checked.count as usize;
-    if list.len() / 3 < n {
+    if list.len() / ROUTE_SIZE < n {
         return Answer::refused(NO_ROOM, 0);
     }
     fill_list(file, list, n);

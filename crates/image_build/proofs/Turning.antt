@@ -1,4 +1,4 @@
--- One node's turn, from what the code's functions answered. Assumes nothing.
+-- One node's turn, from what the code's functions found. Assumes nothing.
 use mathlib.Core.Path.{_≡_, sym, ap, ap₂, _∙_, subst}
 use mathlib.Core.List.{List}
 use Prim.Native.Nat.{ℕ, _+_, _-_, _*_, _≤_}

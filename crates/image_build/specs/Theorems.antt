@@ -6,7 +6,8 @@ use Rattle.bits.specs.Bits.{bits}
 use Rattle.routes.specs.Routes.{routeAt, routeCount, Words}
 use Rattle.routes.specs.Scan.{scanOf}
 use Rattle.image_rules.specs.Image.{passed}
-use Rattle.image_rules.specs.Lookup.{answered, lookupWords, Strided}
+use Rattle.image_rules.specs.Lookup.{lookupWords, Strided}
+use Rattle.routes.specs.Refusals.{found}
 use Rattle.image_build.specs.Build.{listRoutes, buildImage}
 
 -- after a build that is done, every address gets the plain scan's port of the list, and the nodes read are the non-leaf slots passed
@@ -16,7 +17,7 @@ BuiltIsScan =
     (w s : ℕ) (list nodes ports : List ℕ) (a : ℕ) → Strided w s → Words w list → a < 2 ^ w
     → buildImage w s list nodes ports .built .number ≡ 0
     → lookupWords w s (buildImage w s list nodes ports .nodes) (buildImage w s list nodes ports .ports) a
-    ≡ answered (scanOf w (routeAt list) (routeCount list) a) (passed (listRoutes w list) s (w / s) [] (bits w a) + 1)
+    ≡ found (scanOf w (routeAt list) (routeCount list) a) (passed (listRoutes w list) s (w / s) [] (bits w a) + 1)
 
 -- "A refusal … writes no lent memory"
 abbrev pub RefusalWritesNothing : Type 0

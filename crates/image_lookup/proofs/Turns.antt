@@ -10,11 +10,11 @@ use lib.Pow.{pow-pos}
 use borrow.Author.Tests.{lt-ltb, le-ltb, le-leb, lt-leb, eqb-true, eqb-false}
 use Rattle.bits.specs.Bitmap.{slotBit, onesBefore}
 use Rattle.bits.proofs.Bitmap.{ones-before-le}
-use Rattle.routes.specs.Refusals.{notInOrder}
+use Rattle.routes.specs.Refusals.{notInOrder, lost}
 use Rattle.image_rules.specs.Node.{nodeCount, isNode, bitmapOf, offsetOf, baseOf}
-use Rattle.image_rules.specs.Lookup.{refusedAt, leafAt, addressSlot, childAt, walk, lookupWords}
+use Rattle.image_rules.specs.Lookup.{leafAt, addressSlot, childAt, walk, lookupWords}
 use Rattle.image_rules.proofs.Walk.{walk-leaf, walk-child}
-use Rattle.image_lookup.specs.Found.{Stride, Lent}
+use Rattle.image_lookup.specs.Needs.{Stride, Lent}
 
 -- a bitmap with nothing above its n lowest bits, and one with something there
 
@@ -34,7 +34,7 @@ stride-off s left h = sym (mul-suc s (left - 1)) ∙ ap (λ (k : ℕ). s * k) (o
 
 -- where levels are left; n is the number of slots, as the code has it
 module _ (s n : ℕ) (is : n ≡ 2 ^ s) (nodes ports : List ℕ) (addr a reads : ℕ) where
-  pub turn-outside : (left : ℕ) → 0 < left → nodeCount nodes < a → walk s nodes ports addr left a reads ≡ refusedAt notInOrder reads
+  pub turn-outside : (left : ℕ) → 0 < left → nodeCount nodes < a → walk s nodes ports addr left a reads ≡ lost notInOrder reads
   unfolding walk
   turn-outside zero l h = absurd (omega arith)
   turn-outside (suc k) l h = rw (lt-ltb 0 a (omega arith), lt-leb a (nodeCount nodes) h)
@@ -45,7 +45,7 @@ module _ (s n : ℕ) (is : n ≡ 2 ^ s) (nodes ports : List ℕ) (addr a reads :
     node = rw (lt-ltb 0 a (lent .some), le-leb a (nodeCount nodes) (lent .most))
 
     pub turn-wide : (left : ℕ) → 0 < left → (b / 2 ^ n ≡ 0 → ⊥)
-        → walk s nodes ports addr left a reads ≡ refusedAt notInOrder (reads + 1)
+        → walk s nodes ports addr left a reads ≡ lost notInOrder (reads + 1)
     unfolding walk
     turn-wide zero l f = absurd (omega arith)
     turn-wide (suc k) l f =
@@ -89,7 +89,7 @@ module _ (s n : ℕ) (is : n ≡ 2 ^ s) (nodes ports : List ℕ) (addr a reads :
           ∙ ap (λ (m : ℕ). walk s nodes ports addr (left - 1) m (reads + 1)) c)
 
 pub turn-none : (s : ℕ) (nodes ports : List ℕ) (addr left a reads : ℕ) → left ≤ 0
-    → walk s nodes ports addr left a reads ≡ refusedAt notInOrder reads
+    → walk s nodes ports addr left a reads ≡ lost notInOrder reads
 unfolding walk
 turn-none s nodes ports addr zero a reads h = refl
 turn-none s nodes ports addr (suc k) a reads h = absurd (omega arith)

@@ -1,3 +1,2 @@
 -- What a lookup answers, and what a caller reads off it.
-pub mod Found
-pub mod Theorems
+pub mod Needs

@@ -4,8 +4,10 @@ ghost use Prim.Native.Nat.{_+_, _^_, _≤_, _<_};
 ghost use lib.Dec.{eqb};
 ghost use Rattle.bits.specs.Bitmap.{slotBit, onesBefore};
 ghost use Rattle.image_rules.specs.Node.{nodeCount, bitmapOf, offsetOf, baseOf};
-ghost use Rattle.image_rules.specs.Lookup.{answered, refusedAt, leafAt, lookupWords};
-ghost use Rattle.image_lookup.specs.Found.{foundOf, Stride, Lent, InSlots};
+ghost use Rattle.image_rules.specs.Lookup.{leafAt, lookupWords};
+ghost use Rattle.routes.specs.Refusals.{found, lost};
+ghost use Rattle.image_lookup.specs.Needs.{Stride, Lent, InSlots};
+use routes::found::Found;
 use routes::refusal::LAST_PORT;
 use routes::refusal::NOT_IN_ORDER;
 use routes::refusal::WRONG_STRIDE;
@@ -16,13 +18,6 @@ pub struct Node(pub usize);
 pub struct Distance(pub usize);
 
 pub struct Leaf(pub usize);
-
-// What a lookup answers: the refusal's number, 0 if it is done; the port; the nodes read.
-pub struct Found {
-    pub number: u32,
-    pub port: u32,
-    pub reads: u32,
-}
 
 impl Node {
     // Nodes are numbered from 1, the root first.
@@ -44,28 +39,6 @@ impl Leaf {
         ensures { λ r. ⌜ r .0 ≡ self .0 + count ⌝ }
     {
         Leaf(self.0 + count)
-    }
-}
-
-impl Found {
-    fn answered(port: u32, reads: u32) -> Self
-        ensures { λ r. ⌜ r ≡ foundOf (answered port reads) ⌝ }
-    {
-        Self {
-            number: 0,
-            port,
-            reads,
-        }
-    }
-
-    fn refused(number: u32, reads: u32) -> Self
-        ensures { λ r. ⌜ r ≡ foundOf (refusedAt number reads) ⌝ }
-    {
-        Self {
-            number,
-            port: 0,
-            reads,
-        }
     }
 }
 
@@ -129,17 +102,17 @@ fn is_leaf(slots: u32, bitmap: u32, j: u32) -> bool
 
 // What leaf number `leaf` answers. Refuses 11 where it is past the ports lent or its port is above 4094.
 fn port_at(ports: &[u16], leaf: Leaf, reads: u32) -> Found
-    ensures { λ r. ⌜ r ≡ foundOf (leafAt (now (ports .entry)) (leaf .0) reads) ⌝ }
+    ensures { λ r. ⌜ r ≡ leafAt (now (ports .entry)) (leaf .0) reads ⌝ }
 {
     let at = leaf.0;
     if ports.len() <= at {
-        return Found::refused(NOT_IN_ORDER, reads);
+        return Found::lost(NOT_IN_ORDER, reads);
     }
     let port = word(ports[at]);
     if LAST_PORT < port {
-        return Found::refused(NOT_IN_ORDER, reads);
+        return Found::lost(NOT_IN_ORDER, reads);
     }
-    Found::answered(port, reads)
+    Found::found(port, reads)
 }
 
 // On a leaf: its number is leaf base plus the ones before its slot.
@@ -170,7 +143,7 @@ fn slots_of(stride: u32) -> u32
 // The walk down from the root. No node has the number 0: the root's is 1, and distances are only added to it.
 fn descend(stride: u32, nodes: &[u32], ports: &[u16], address: u32) -> Found
     requires { ⌜ Stride stride ⌝ }
-    ensures { λ r. ⌜ r ≡ foundOf (lookupWords 32 stride (now (nodes .entry)) (now (ports .entry)) address) ⌝ }
+    ensures { λ r. ⌜ r ≡ lookupWords 32 stride (now (nodes .entry)) (now (ports .entry)) address ⌝ }
 {
     let slots = slots_of(stride);
     let mut left = 32 / stride;
@@ -179,12 +152,12 @@ fn descend(stride: u32, nodes: &[u32], ports: &[u16], address: u32) -> Found
     while 0 < left {
         left -= 1;
         if node_count(nodes) < at.0 {
-            return Found::refused(NOT_IN_ORDER, reads);
+            return Found::lost(NOT_IN_ORDER, reads);
         }
         reads += 1;
         let bitmap = bitmap_of(nodes, at);
         if bitmap >> slots != 0 {
-            return Found::refused(NOT_IN_ORDER, reads);
+            return Found::lost(NOT_IN_ORDER, reads);
         }
         let j = (address >> (stride * left)) % slots;
         let ones = ones_before(slots, bitmap, j);
@@ -194,26 +167,26 @@ fn descend(stride: u32, nodes: &[u32], ports: &[u16], address: u32) -> Found
         at = child_of(nodes, at, j - ones);
     }
     // A non-leaf at the last depth.
-    Found::refused(NOT_IN_ORDER, reads)
+    Found::lost(NOT_IN_ORDER, reads)
 }
 
 // The lookup at stride 1. Refuses 11 at place 0, with the nodes read so far.
 pub fn lookup_1(nodes: &[u32], ports: &[u16], address: u32) -> Found
-    ensures { λ r. ⌜ r ≡ foundOf (lookupWords 32 1 (now (nodes .entry)) (now (ports .entry)) address) ⌝ }
+    ensures { λ r. ⌜ r ≡ lookupWords 32 1 (now (nodes .entry)) (now (ports .entry)) address ⌝ }
 {
     descend(1, nodes, ports, address)
 }
 
 // The lookup at stride 2. Refuses 11 at place 0, with the nodes read so far.
 pub fn lookup_2(nodes: &[u32], ports: &[u16], address: u32) -> Found
-    ensures { λ r. ⌜ r ≡ foundOf (lookupWords 32 2 (now (nodes .entry)) (now (ports .entry)) address) ⌝ }
+    ensures { λ r. ⌜ r ≡ lookupWords 32 2 (now (nodes .entry)) (now (ports .entry)) address ⌝ }
 {
     descend(2, nodes, ports, address)
 }
 
 // The lookup at stride 4. Refuses 11 at place 0, with the nodes read so far.
 pub fn lookup_4(nodes: &[u32], ports: &[u16], address: u32) -> Found
-    ensures { λ r. ⌜ r ≡ foundOf (lookupWords 32 4 (now (nodes .entry)) (now (ports .entry)) address) ⌝ }
+    ensures { λ r. ⌜ r ≡ lookupWords 32 4 (now (nodes .entry)) (now (ports .entry)) address ⌝ }
 {
     descend(4, nodes, ports, address)
 }
@@ -222,7 +195,7 @@ pub fn lookup_4(nodes: &[u32], ports: &[u16], address: u32) -> Found
 // constant lets the compiler make its walk for that stride alone; and it calls none of the three above, so that each walk has one
 // caller, in which the compiler unfolds it.
 pub fn lookup(stride: u32, nodes: &[u32], ports: &[u16], address: u32) -> Found
-    ensures { λ r. ⌜ r ≡ foundOf (lookupWords 32 stride (now (nodes .entry)) (now (ports .entry)) address) ⌝ }
+    ensures { λ r. ⌜ r ≡ lookupWords 32 stride (now (nodes .entry)) (now (ports .entry)) address ⌝ }
 {
     if stride == 1 {
         return descend(1, nodes, ports, address);
@@ -233,5 +206,5 @@ pub fn lookup(stride: u32, nodes: &[u32], ports: &[u16], address: u32) -> Found
     if stride == 4 {
         return descend(4, nodes, ports, address);
     }
-    Found::refused(WRONG_STRIDE, 0)
+    Found::lost(WRONG_STRIDE, 0)
 }

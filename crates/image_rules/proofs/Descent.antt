@@ -12,9 +12,9 @@ use Rattle.bits.specs.Bits.{Bits, bits}
 use Rattle.lists.proofs.Tests.{way}
 use Rattle.trie.specs.Routes.{Route}
 use Rattle.trie.specs.Scan.{scanList}
-use Rattle.routes.specs.Refusals.{lastPort}
+use Rattle.routes.specs.Refusals.{lastPort, found}
 use Rattle.image_rules.specs.Image.{someLonger, slotBits, imagePaths, imageNodes, imagePorts, passed}
-use Rattle.image_rules.specs.Lookup.{answered, addressSlot, leafOf, walk}
+use Rattle.image_rules.specs.Lookup.{addressSlot, leafOf, walk}
 use Rattle.bits.proofs.Digits.{bits-level, take-level, drop-level}
 use Rattle.image_rules.proofs.Longer.{scan-more, scan-le}
 use Rattle.image_rules.proofs.Walk.{leaf-at-is, walk-leaf, walk-child}
@@ -28,7 +28,7 @@ module _ (w s K : ℕ) (rs : List Route) (more extra : List ℕ) (addr : ℕ)
   Walked k =
       (i reads : ℕ) → i < length (imagePaths s K rs) → Deep rs s w short k (getD (imagePaths s K rs) i [])
       → walk s (imageNodes s K rs ++ more) (imagePorts s K rs ++ extra) addr k (suc i) reads
-      ≡ answered (scanList rs (getD (imagePaths s K rs) i [] ++ bits (s * k) addr))
+      ≡ found (scanList rs (getD (imagePaths s K rs) i [] ++ bits (s * k) addr))
       (reads + (passed rs s k (getD (imagePaths s K rs) i []) (bits (s * k) addr) + 1))
 
   module _ (k i reads : ℕ) (h : i < length (imagePaths s K rs)) where
@@ -55,20 +55,20 @@ module _ (w s K : ℕ) (rs : List Route) (more extra : List ℕ) (addr : ℕ)
 
     leaf-turn : someLonger rs slot ≡ false
         → walk s (imageNodes s K rs ++ more) (imagePorts s K rs ++ extra) addr (suc k) (suc i) reads
-        ≡ answered (scanList rs (at ++ bits (s * suc k) addr)) (reads + (passed rs s (suc k) at (bits (s * suc k) addr) + 1))
+        ≡ found (scanList rs (at ++ bits (s * suc k) addr)) (reads + (passed rs s (suc k) at (bits (s * suc k) addr) + 1))
     leaf-turn t =
         walk-leaf s (imageNodes s K rs ++ more) (imagePorts s K rs ++ extra) addr k (suc i) reads
         (stored-node s K rs more extra i h j lj) (stored-small s K rs more extra i h j lj) (leaf-bit s K rs more extra i h j lj t)
         ∙ leaf-at-is (imagePorts s K rs ++ extra) (leafOf (2 ^ s) (imageNodes s K rs ++ more) (suc i) j) (scanList rs slot) (reads + 1)
         (leaf-number-lt s K rs more extra i h j lj t) (leaf-port s K rs more extra i h j lj t) (scan-le rs slot lastPort low)
-        ∙ ap₂ answered
+        ∙ ap₂ found
         (sym (ap (scanList rs) address ∙ scan-more rs slot (bits (s * k) addr) t))
         (let p : passed rs s (suc k) at (bits (s * suc k) addr) ≡ 0 = passed-turn ∙ ap (λ (b : Bool). cond b (passed rs s k slot (bits (s * k) addr) + 1) 0) t in
         omega arith)
 
     child-turn : someLonger rs slot ≡ true → Deep rs s w short (suc k) at → Walked k
         → walk s (imageNodes s K rs ++ more) (imagePorts s K rs ++ extra) addr (suc k) (suc i) reads
-        ≡ answered (scanList rs (at ++ bits (s * suc k) addr)) (reads + (passed rs s (suc k) at (bits (s * suc k) addr) + 1))
+        ≡ found (scanList rs (at ++ bits (s * suc k) addr)) (reads + (passed rs s (suc k) at (bits (s * suc k) addr) + 1))
     child-turn t e ih =
         let c = child-stored s K rs more extra i h j lj t (paths-numbered rs s w short K d) (first-child-after rs s w short K d i h) in
         let x = c .is in
@@ -76,7 +76,7 @@ module _ (w s K : ℕ) (rs : List Route) (more extra : List ℕ) (addr : ℕ)
         (stored-node s K rs more extra i h j lj) (stored-small s K rs more extra i h j lj) (child-bit s K rs more extra i h j lj t)
         ∙ ap (λ (a : ℕ). walk s (imageNodes s K rs ++ more) (imagePorts s K rs ++ extra) addr k a (reads + 1)) (c .number)
         ∙ ih (c .at) (reads + 1) (c .stored) (subst (Deep rs s w short k) (sym x) (deep-slot rs s w short k at j e t))
-        ∙ ap₂ answered
+        ∙ ap₂ found
         (ap (λ (q : Bits). scanList rs (q ++ bits (s * k) addr)) x ∙ sym (ap (scanList rs) address))
         (let p : passed rs s (suc k) at (bits (s * suc k) addr) ≡ passed rs s k slot (bits (s * k) addr) + 1 =
         passed-turn ∙ ap (λ (b : Bool). cond b (passed rs s k slot (bits (s * k) addr) + 1) 0) t in
@@ -94,10 +94,10 @@ module _ (w s K : ℕ) (rs : List Route) (more extra : List ℕ) (addr : ℕ)
 
   -- from node 1
   pub walked-root : walk s (imageNodes s K rs ++ more) (imagePorts s K rs ++ extra) addr K 1 0
-      ≡ answered (scanList rs (bits (s * K) addr)) (passed rs s K [] (bits (s * K) addr) + 1)
+      ≡ found (scanList rs (bits (s * K) addr)) (passed rs s K [] (bits (s * K) addr) + 1)
   walked-root =
       let is = paths-numbered rs s w short K d in
       let e : getD (imagePaths s K rs) 0 [] ≡ [] = ap (λ (l : List Bits). getD l 0 []) is in
       walked K 0 0 (omega (arith, ap length is)) (subst (Deep rs s w short K) (sym e) d)
-      ∙ ap (λ (q : Bits). answered (scanList rs (q ++ bits (s * K) addr)) (0 + (passed rs s K q (bits (s * K) addr) + 1))) e
-      ∙ ap (λ (n : ℕ). answered (scanList rs (bits (s * K) addr)) n) (zero-add (passed rs s K [] (bits (s * K) addr) + 1))
+      ∙ ap (λ (q : Bits). found (scanList rs (q ++ bits (s * K) addr)) (0 + (passed rs s K q (bits (s * K) addr) + 1))) e
+      ∙ ap (λ (n : ℕ). found (scanList rs (bits (s * K) addr)) n) (zero-add (passed rs s K [] (bits (s * K) addr) + 1))

@@ -21,7 +21,8 @@ use Rattle.lists.specs.Flat.{flat}
 use Rattle.image_rules.specs.Node.{nodeCount, isNode, bitmapOf}
 use Rattle.image_rules.specs.Breadth.{leaf, nonLeaf, leafBit, children, leafPorts, treePorts}
 use Rattle.image_rules.specs.Image.{someLonger, slotOf, slotBits, slots, imagePaths, imageNodes, imagePorts, passed, Imaged, pathOf}
-use Rattle.image_rules.specs.Lookup.{answered, leafOf, childAt, isStride, lookupWords, Strided}
+use Rattle.image_rules.specs.Lookup.{leafOf, childAt, isStride, lookupWords, Strided}
+use Rattle.routes.specs.Refusals.{found}
 use Rattle.image_rules.specs.Theorems.{LookupIsScan, Numbered, PortsCount, SlotRule, LeafRule, ChildRule}
 use Rattle.image_rules.proofs.Counts.{slots-count}
 use Rattle.image_rules.proofs.Longer.{some-longer→, some-longer, scan-more}
@@ -55,8 +56,8 @@ lookup-is-scan w s rs nodes ports a st ok =
     let e = strides-make st in
     rw (st .stride)
     (walked-root w s K rs (drop (length (imageNodes s K rs)) nodes) (drop (length (imagePorts s K rs)) ports) a (ok .short) (ok .low) (deep-root st rs ok)
-    ∙ ap (λ (n : ℕ). answered (scanList rs (bits n a)) (passed rs s K [] (bits n a) + 1)) e
-    ∙ ap (λ (p : ℕ). answered p (passed rs s K [] (bits w a) + 1)) (scan-list-is-scan rs (bits w a) (ok .distinct) (ok .ported)))
+    ∙ ap (λ (n : ℕ). found (scanList rs (bits n a)) (passed rs s K [] (bits n a) + 1)) e
+    ∙ ap (λ (p : ℕ). found p (passed rs s K [] (bits w a) + 1)) (scan-list-is-scan rs (bits w a) (ok .distinct) (ok .ported)))
 
 pub numbered : Numbered
 numbered w s rs st ok = paths-numbered rs s w (ok .short) (w / s) (deep-root st rs ok)

@@ -9,3 +9,4 @@ pub mod Descent
 pub mod Image
 pub mod Alike
 pub mod Listed
+pub mod Strides

@@ -9,12 +9,11 @@ use Rattle.bits.proofs.Bits.{length-take-bits}
 use Rattle.trie.specs.Routes.{Route}
 use Rattle.routes.specs.Routes.{bitRoute, ValidRoute, ValidList}
 use Rattle.lists.specs.Numbered.{listOf}
-use Rattle.routes.specs.Refusals.{lastPort}
+use Rattle.routes.specs.Refusals.{lastPort, found}
 use Rattle.routes.specs.declared.Route.{Route as ListRoute}
 use Rattle.lists.proofs.Numbered.{mem-list-of, map-list-of}
 use Rattle.routes.proofs.Held.{bitAt, bits-distinct, scan-is-held}
 use Rattle.image_rules.specs.Image.{passed, routesOf, Imaged}
-use Rattle.image_rules.specs.Lookup.{answered}
 use Rattle.image_rules.specs.Theorems.{ValidImaged, LookupIsListScan}
 use Rattle.image_rules.proofs.Image.{lookup-is-scan}
 
@@ -39,4 +38,4 @@ valid-imaged w R n ok =
 pub lookup-is-list-scan : LookupIsListScan
 lookup-is-list-scan w s R n nodes ports a st ok h =
     lookup-is-scan w s (routesOf w R n) nodes ports a st (valid-imaged w R n ok)
-    ∙ ap (λ (p : ℕ). answered p (passed (routesOf w R n) s (w / s) [] (bits w a) + 1)) (sym (scan-is-held w R n a ok h))
+    ∙ ap (λ (p : ℕ). found p (passed (routesOf w R n) s (w / s) [] (bits w a) + 1)) (sym (scan-is-held w R n a ok h))

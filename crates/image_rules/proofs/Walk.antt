@@ -8,13 +8,14 @@ use lib.Dec.{eqb, ltb, leb}
 use lib.ListN.{length, getD}
 use borrow.Author.Tests.{lt-ltb, le-leb}
 use Rattle.bits.specs.Bitmap.{slotBit}
-use Rattle.routes.specs.Refusals.{notInOrder, wrongStride, lastPort}
+use Rattle.routes.specs.Refusals.{notInOrder, wrongStride, lastPort, found, lost}
 use Rattle.image_rules.specs.Node.{isNode, bitmapOf}
-use Rattle.image_rules.specs.Lookup.{Looked, answered, refusedAt, addressSlot, leafOf, childAt, leafAt, walk, isStride, lookupWords}
+use Rattle.image_rules.specs.Lookup.{addressSlot, leafOf, childAt, leafAt, walk, isStride, lookupWords}
+use Rattle.routes.specs.declared.found.Found.{Found}
 use Rattle.image_rules.specs.Theorems.{ReadsLe}
 
 pub leaf-at-is : (ports : List ℕ) (l p reads : ℕ) → l < length ports → getD ports l 0 ≡ p → p ≤ lastPort
-    → leafAt ports l reads ≡ answered p reads
+    → leafAt ports l reads ≡ found p reads
 leaf-at-is ports l p reads h e k = rw (lt-ltb l (length ports) h, e, le-leb p lastPort k)
 
 -- a node whose bitmap is in order
@@ -36,13 +37,13 @@ reads-leaf : (ports : List ℕ) (l reads : ℕ) → leafAt ports l reads .reads 
 reads-leaf ports l reads = by (ltb l (length ports)) (leb (getD ports l 0) lastPort)
   where
     by : (b c : Bool)
-        → cond b (cond c (answered (getD ports l 0) reads) (refusedAt notInOrder reads)) (refusedAt notInOrder reads) .reads ≡ reads
+        → cond b (cond c (found (getD ports l 0) reads) (lost notInOrder reads)) (lost notInOrder reads) .reads ≡ reads
     by true true = refl
     by true false = refl
     by false c = refl
 
-reads-turn : (node small one : Bool) (end next : Looked) (reads k : ℕ) → end .reads ≡ reads + 1 → next .reads ≤ reads + 1 + k
-    → cond node (cond small (cond one end next) (refusedAt notInOrder (reads + 1))) (refusedAt notInOrder reads) .reads ≤ reads + suc k
+reads-turn : (node small one : Bool) (end next : Found) (reads k : ℕ) → end .reads ≡ reads + 1 → next .reads ≤ reads + 1 + k
+    → cond node (cond small (cond one end next) (lost notInOrder (reads + 1))) (lost notInOrder reads) .reads ≤ reads + suc k
 reads-turn true true true end next reads k h l = omega arith
 reads-turn true true false end next reads k h l = omega arith
 reads-turn true false one end next reads k h l = omega arith
@@ -63,6 +64,6 @@ pub reads-le : ReadsLe
 unfolding lookupWords
 reads-le w s nodes ports a = by (isStride s)
   where
-    by : (b : Bool) → cond b (walk s nodes ports a (w / s) 1 0) (refusedAt wrongStride 0) .reads ≤ w / s
+    by : (b : Bool) → cond b (walk s nodes ports a (w / s) 1 0) (lost wrongStride 0) .reads ≤ w / s
     by true = omega (arith, reads-walk s nodes ports a (w / s) 1 0)
     by false = omega arith

@@ -6,23 +6,11 @@ use Prim.Native.Nat.{ℕ, zero, suc, _+_, _*_, _/_, _%_, _^_, _<_}
 use lib.Dec.{eqb, ltb, leb}
 use lib.ListN.{length, getD}
 use Rattle.bits.specs.Bitmap.{slotBit, onesBefore, zerosBefore}
-use Rattle.routes.specs.Refusals.{notInOrder, wrongStride, lastPort}
+use Rattle.routes.specs.Refusals.{notInOrder, wrongStride, lastPort, found, lost}
 use Rattle.image_rules.specs.Node.{isNode, bitmapOf, offsetOf, baseOf}
 use mathlib.Core.Path.{_≡_}
 use Rattle.bits.specs.Bits.{bits}
-
--- what a lookup answers: the refusal's number, 0 if it is done; the port; the nodes read
-pub record Looked : Type 0 where
-  pub number : ℕ
-  pub port : ℕ
-  pub reads : ℕ
-
-abbrev pub answered : ℕ → ℕ → Looked
-answered port reads = record { number = 0; port = port; reads = reads }
-
--- "all other results 0 (.. for a lookup the rows or nodes read so far)"
-abbrev pub refusedAt : ℕ → ℕ → Looked
-refusedAt number reads = record { number = number; port = 0; reads = reads }
+use Rattle.routes.specs.declared.found.Found.{Found}
 
 -- the slot of the address where k levels are left below it
 abbrev pub addressSlot : ℕ → ℕ → ℕ → ℕ
@@ -37,32 +25,32 @@ abbrev pub childAt : ℕ → List ℕ → ℕ → ℕ → ℕ
 childAt n nodes a j = a + offsetOf nodes a + zerosBefore n (bitmapOf nodes a) j
 
 -- 11 for "a leaf number past the ports lent, a port above 4094"
-abbrev pub leafAt : List ℕ → ℕ → ℕ → Looked
+abbrev pub leafAt : List ℕ → ℕ → ℕ → Found
 leafAt ports l reads =
     cond (ltb l (length ports))
-    (cond (leb (getD ports l 0) lastPort) (answered (getD ports l 0) reads) (refusedAt notInOrder reads))
-    (refusedAt notInOrder reads)
+    (cond (leb (getD ports l 0) lastPort) (found (getD ports l 0) reads) (lost notInOrder reads))
+    (lost notInOrder reads)
 
 -- From node a on, where k levels are left. 11 for what is no node, which "adds none" to the nodes read; for "a bitmap of 2^(2^s) or
 -- more"; and with no level left, for "a non-leaf at depth [w-s]", whose node is counted already.
-unfoldable pub walk : ℕ → List ℕ → List ℕ → ℕ → ℕ → ℕ → ℕ → Looked
-walk s nodes ports addr zero a reads = refusedAt notInOrder reads
+unfoldable pub walk : ℕ → List ℕ → List ℕ → ℕ → ℕ → ℕ → ℕ → Found
+walk s nodes ports addr zero a reads = lost notInOrder reads
 walk s nodes ports addr (suc k) a reads =
     cond (isNode nodes a)
     (cond (ltb (bitmapOf nodes a) (2 ^ (2 ^ s)))
     (cond (eqb (slotBit (2 ^ s) (bitmapOf nodes a) (addressSlot s addr k)) 1)
     (leafAt ports (leafOf (2 ^ s) nodes a (addressSlot s addr k)) (reads + 1))
     (walk s nodes ports addr k (childAt (2 ^ s) nodes a (addressSlot s addr k)) (reads + 1)))
-    (refusedAt notInOrder (reads + 1)))
-    (refusedAt notInOrder reads)
+    (lost notInOrder (reads + 1)))
+    (lost notInOrder reads)
 
 -- "Stride s is 1, 2 or 4."
 abbrev pub isStride : ℕ → Bool
 isStride s = cond (eqb s 1) true (cond (eqb s 2) true (eqb s 4))
 
 -- "its lookup 12, then 11": from the root, on all levels of a w-bit address
-unfoldable pub lookupWords : ℕ → ℕ → List ℕ → List ℕ → ℕ → Looked
-lookupWords w s nodes ports addr = cond (isStride s) (walk s nodes ports addr (w / s) 1 0) (refusedAt wrongStride 0)
+unfoldable pub lookupWords : ℕ → ℕ → List ℕ → List ℕ → ℕ → Found
+lookupWords w s nodes ports addr = cond (isStride s) (walk s nodes ports addr (w / s) 1 0) (lost wrongStride 0)
 
 -- w-bit addresses are whole strides of s bits
 pub record Strided (w s : ℕ) : Type 0 where

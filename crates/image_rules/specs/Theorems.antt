@@ -17,7 +17,8 @@ use Rattle.lists.specs.Flat.{flat}
 use Rattle.image_rules.specs.Node.{nodeSize, isNode, bitmapOf}
 use Rattle.image_rules.specs.Breadth.{children}
 use Rattle.image_rules.specs.Image.{Longer, slotBits, slots, imagePaths, imageNodes, imagePorts, passed, routesOf, Imaged, pathOf}
-use Rattle.image_rules.specs.Lookup.{answered, leafOf, childAt, lookupWords, Strided}
+use Rattle.image_rules.specs.Lookup.{leafOf, childAt, lookupWords, Strided}
+use Rattle.routes.specs.Refusals.{found}
 
 -- On the image of a list every address gets the plain scan's port, whatever else is lent after the image; and the nodes read are
 -- "one more than the non-leaf slots passed".
@@ -25,7 +26,7 @@ abbrev pub LookupIsScan : Type 0
 LookupIsScan =
     (w s : ℕ) (rs : List Route) (nodes ports : List ℕ) (a : ℕ) → Strided w s → Imaged w rs
     → lookupWords w s (over (imageNodes s (w / s) rs) nodes) (over (imagePorts s (w / s) rs) ports) a
-    ≡ answered (scan (held rs) (bits w a)) (passed rs s (w / s) [] (bits w a) + 1)
+    ≡ found (scan (held rs) (bits w a)) (passed rs s (w / s) [] (bits w a) + 1)
 
 -- a valid list has an image
 abbrev pub ValidImaged : Type 0
@@ -36,7 +37,7 @@ abbrev pub LookupIsListScan : Type 0
 LookupIsListScan =
     (w s : ℕ) (R : ℕ → ListRoute) (n : ℕ) (nodes ports : List ℕ) (a : ℕ) → Strided w s → ValidList w R n → a < 2 ^ w
     → lookupWords w s (over (imageNodes s (w / s) (routesOf w R n)) nodes) (over (imagePorts s (w / s) (routesOf w R n)) ports) a
-    ≡ answered (scanOf w R n a) (passed (routesOf w R n) s (w / s) [] (bits w a) + 1)
+    ≡ found (scanOf w R n a) (passed (routesOf w R n) s (w / s) [] (bits w a) + 1)
 
 -- "At most 32/s nodes are read": on any words
 abbrev pub ReadsLe : Type 0

@@ -1,3 +1,3 @@
 -- What the exports' proofs share, and that each promise leaves no choice.
-pub mod Laid
 pub mod Unique
+pub mod Reply

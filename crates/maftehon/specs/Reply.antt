@@ -4,8 +4,7 @@ use mathlib.Core.List.{List, [], _∷_}
 use Prim.Native.Nat.{ℕ}
 use Rattle.promise.specs.Over.{Outcome, outcome}
 use Rattle.routes.specs.declared.Answer.{Answer}
-use Rattle.table_rules.specs.declared.Found.{Found}
-use Rattle.image_rules.specs.Lookup.{Looked}
+use Rattle.routes.specs.declared.found.Found.{Found}
 use Rattle.image_build.specs.Build.{Left}
 use Rattle.image_build.specs.declared.Built.{Built}
 
@@ -26,14 +25,8 @@ abbrev pub counted : Answer → Reply
 counted x = reply (x .number) (x .place ∷ x .count ∷ [])
 
 -- place 0, the port, and the rows or nodes read
-abbrev pub looked : ℕ → ℕ → ℕ → Reply
-looked number port reads = reply number (0 ∷ port ∷ reads ∷ [])
-
-abbrev pub foundRow : Found → Reply
-foundRow x = looked (x .number) (x .port) (x .reads)
-
-abbrev pub foundNode : Looked → Reply
-foundNode x = looked (x .number) (x .port) (x .reads)
+abbrev pub looked : Found → Reply
+looked x = reply (x .number) (0 ∷ x .port ∷ x .reads ∷ [])
 
 -- the place, and the nodes and ports written
 abbrev pub built : Built → Reply

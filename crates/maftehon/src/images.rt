@@ -2,7 +2,7 @@
 ghost use mathlib.Core.Path.{_≡_};
 ghost use Rattle.image_rules.specs.Lookup.{lookupWords};
 ghost use Rattle.image_build.specs.Build.{buildImage};
-ghost use Rattle.maftehon.specs.Reply.{reply, foundNode, imaged, repliedImage};
+ghost use Rattle.maftehon.specs.Reply.{reply, looked, imaged, repliedImage};
 use crate::replies::built;
 use crate::replies::looked;
 
@@ -27,10 +27,9 @@ pub extern "C" fn mft_image_lookup(
     address: u32,
     answer: &mut [u32; 3],
 ) -> u32
-    ensures { λ r. ⌜ reply r (now (answer .exit)) ≡ foundNode (lookupWords 32 stride (now (nodes .entry)) (now (ports .entry)) address) ⌝ }
+    ensures { λ r. ⌜ reply r (now (answer .exit)) ≡ looked (lookupWords 32 stride (now (nodes .entry)) (now (ports .entry)) address) ⌝ }
 {
-    let found = image_lookup::lookup(stride, nodes, ports, address);
-    looked(found.number, found.port, found.reads, answer)
+    looked(image_lookup::lookup(stride, nodes, ports, address), answer)
 }
 
 #[no_mangle]
@@ -40,10 +39,9 @@ pub extern "C" fn mft_image_lookup_1(
     address: u32,
     answer: &mut [u32; 3],
 ) -> u32
-    ensures { λ r. ⌜ reply r (now (answer .exit)) ≡ foundNode (lookupWords 32 1 (now (nodes .entry)) (now (ports .entry)) address) ⌝ }
+    ensures { λ r. ⌜ reply r (now (answer .exit)) ≡ looked (lookupWords 32 1 (now (nodes .entry)) (now (ports .entry)) address) ⌝ }
 {
-    let found = image_lookup::lookup_1(nodes, ports, address);
-    looked(found.number, found.port, found.reads, answer)
+    looked(image_lookup::lookup_1(nodes, ports, address), answer)
 }
 
 #[no_mangle]
@@ -53,10 +51,9 @@ pub extern "C" fn mft_image_lookup_2(
     address: u32,
     answer: &mut [u32; 3],
 ) -> u32
-    ensures { λ r. ⌜ reply r (now (answer .exit)) ≡ foundNode (lookupWords 32 2 (now (nodes .entry)) (now (ports .entry)) address) ⌝ }
+    ensures { λ r. ⌜ reply r (now (answer .exit)) ≡ looked (lookupWords 32 2 (now (nodes .entry)) (now (ports .entry)) address) ⌝ }
 {
-    let found = image_lookup::lookup_2(nodes, ports, address);
-    looked(found.number, found.port, found.reads, answer)
+    looked(image_lookup::lookup_2(nodes, ports, address), answer)
 }
 
 #[no_mangle]
@@ -66,8 +63,7 @@ pub extern "C" fn mft_image_lookup_4(
     address: u32,
     answer: &mut [u32; 3],
 ) -> u32
-    ensures { λ r. ⌜ reply r (now (answer .exit)) ≡ foundNode (lookupWords 32 4 (now (nodes .entry)) (now (ports .entry)) address) ⌝ }
+    ensures { λ r. ⌜ reply r (now (answer .exit)) ≡ looked (lookupWords 32 4 (now (nodes .entry)) (now (ports .entry)) address) ⌝ }
 {
-    let found = image_lookup::lookup_4(nodes, ports, address);
-    looked(found.number, found.port, found.reads, answer)
+    looked(image_lookup::lookup_4(nodes, ports, address), answer)
 }

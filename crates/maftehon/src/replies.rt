@@ -3,6 +3,7 @@ ghost use mathlib.Core.Path.{_≡_};
 ghost use Rattle.maftehon.specs.Reply.{reply, placed, counted, looked, built};
 use image_build::Built;
 use routes::Answer;
+use routes::found::Found;
 
 // The place alone.
 pub(crate) fn placed(x: Answer, answer: &mut [u32; 1]) -> u32
@@ -21,11 +22,11 @@ pub(crate) fn counted(x: Answer, answer: &mut [u32; 2]) -> u32
 }
 
 // Place 0, a lookup's port, and the rows or nodes read.
-pub(crate) fn looked(number: u32, port: u32, reads: u32, answer: &mut [u32; 3]) -> u32
-    ensures { λ r. ⌜ reply r (now (answer .exit)) ≡ looked number port reads ⌝ }
+pub(crate) fn looked(x: Found, answer: &mut [u32; 3]) -> u32
+    ensures { λ r. ⌜ reply r (now (answer .exit)) ≡ looked x ⌝ }
 {
-    *answer = [0, port, reads];
-    number
+    *answer = [0, x.port, x.reads];
+    x.number
 }
 
 // The place, and the nodes and ports written.

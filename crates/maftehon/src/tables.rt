@@ -8,7 +8,7 @@ ghost use Rattle.table_rules.specs.Save.{saveInto};
 ghost use Rattle.table_lookup.specs.Good.{tableCheck};
 ghost use Rattle.table_update.specs.Calls.{announceInto, withdrawInto, buildInto};
 ghost use Rattle.table_runs.specs.TableRuns.{tableRuns};
-ghost use Rattle.maftehon.specs.Reply.{reply, placed, foundRow, replied};
+ghost use Rattle.maftehon.specs.Reply.{reply, placed, looked, replied};
 use crate::replies::counted;
 use crate::replies::looked;
 use crate::replies::placed;
@@ -24,10 +24,9 @@ pub extern "C" fn mft_table_check(rows: &[u32], n: u32, answer: &mut [u32; 1]) -
 
 #[no_mangle]
 pub extern "C" fn mft_table_lookup(rows: &[u32], n: u32, address: u32, answer: &mut [u32; 3]) -> u32
-    ensures { λ r. ⌜ reply r (now (answer .exit)) ≡ foundRow (lookupIn 32 (capacity (now (rows .entry))) (rowAt (now (rows .entry))) n address) ⌝ }
+    ensures { λ r. ⌜ reply r (now (answer .exit)) ≡ looked (lookupIn 32 (capacity (now (rows .entry))) (rowAt (now (rows .entry))) n address) ⌝ }
 {
-    let found = table_lookup::lookup(rows, n, address);
-    looked(found.number, found.port, found.reads, answer)
+    looked(table_lookup::lookup(rows, n, address), answer)
 }
 
 #[no_mangle]

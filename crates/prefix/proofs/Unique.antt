@@ -17,6 +17,12 @@ use Rattle.prefix.proofs.Prefix.right.Kinds as right-kinds
 use Rattle.prefix.proofs.Prefix.right.Reads as right-reads
 use Rattle.prefix.proofs.Prefix.precedes.Kinds as precedes-kinds
 use Rattle.prefix.proofs.Prefix.precedes.Reads as precedes-reads
+use Rattle.prefix.proofs.bit_before.Kinds as bit-before-kinds
+use Rattle.prefix.proofs.bit_before.Reads as bit-before-reads
+use Rattle.prefix.proofs.Prefix.is_same.Kinds as is-same-kinds
+use Rattle.prefix.proofs.Prefix.is_same.Reads as is-same-reads
+use Rattle.prefix.proofs.Prefix.is_ahead.Kinds as is-ahead-kinds
+use Rattle.prefix.proofs.Prefix.is_ahead.Reads as is-ahead-reads
 
 new-unique : Determined 0 new-kinds.ps new-kinds.r new-reads.Post (λ κs x s. x)
 new-unique κs a x y s t p q = p ∙ sym q
@@ -41,3 +47,12 @@ right-unique κs a x y s t p q = p ∙ sym q
 
 precedes-unique : Determined 0 precedes-kinds.ps precedes-kinds.r precedes-reads.Post (λ κs x s. x)
 precedes-unique κs a x y s t p q = p ∙ sym q
+
+bit-before-unique : Determined 0 bit-before-kinds.ps bit-before-kinds.r bit-before-reads.Post (λ κs x s. x)
+bit-before-unique κs a x y s t p q = p ∙ sym q
+
+is-same-unique : Determined 0 is-same-kinds.ps is-same-kinds.r is-same-reads.Post (λ κs x s. x)
+is-same-unique κs a x y s t p q = p ∙ sym q
+
+is-ahead-unique : Determined 0 is-ahead-kinds.ps is-ahead-kinds.r is-ahead-reads.Post (λ κs x s. x)
+is-ahead-unique κs a x y s t p q = p ∙ sym q

@@ -2,7 +2,8 @@
 // Every method answers for every value and length; docs/DECISIONS.md says what outside the rules' domain.
 ghost use mathlib.Core.Path.{_≡_};
 ghost use Prim.Native.Nat.{_-_, _%_, _^_, _≤_};
-ghost use Rattle.bits.specs.Prefix.{clear, matches, first, last, precedes};
+ghost use Rattle.bits.specs.Bits.{bitBefore};
+ghost use Rattle.bits.specs.Prefix.{clear, matches, first, last, precedes, samePrefix, aheadOf};
 ghost use Rattle.prefix.specs.Prefixes.{Spanned, prefix, leftHalf, rightHalf};
 
 pub struct Prefix {
@@ -15,6 +16,17 @@ fn gap(len: u32) -> u32
     ensures { λ r. ⌜ (r ≡ 32 - len) × (r ≤ 32) ⌝ }
 {
     if len < 32 { 32 - len } else { 0 }
+}
+
+// The bit of an address that has k bits after it; none past 32 bits.
+pub fn bit_before(address: u32, k: u32) -> bool
+    ensures { λ r. ⌜ r ≡ bitBefore address k ⌝ }
+{
+    if k < 32 {
+        (address >> k) % 2 == 1
+    } else {
+        false
+    }
 }
 
 // How many addresses share the first `len` bits.
@@ -99,5 +111,19 @@ impl Prefix {
         ensures { λ r. ⌜ r ≡ precedes (self .value) (self .len) (next .value) (next .len) ⌝ }
     {
         (self.value < next.value) | ((self.value == next.value) & (self.len < next.len))
+    }
+
+    // Whether another prefix is this one.
+    pub fn is_same(self, other: Prefix) -> bool
+        ensures { λ r. ⌜ r ≡ samePrefix (self .value) (self .len) (other .value) (other .len) ⌝ }
+    {
+        (self.len == other.len) & (self.value == other.value)
+    }
+
+    // Whether this prefix goes before another in the trie: it is longer, or as long and of smaller value.
+    pub fn is_ahead(self, other: Prefix) -> bool
+        ensures { λ r. ⌜ r ≡ aheadOf (self .value) (self .len) (other .value) (other .len) ⌝ }
+    {
+        (other.len < self.len) | ((other.len == self.len) & (self.value < other.value))
     }
 }

@@ -8,7 +8,8 @@ use native.Mathlib.Numerals.{towards-suc}
 use lib.ListN.{length, getD, take, drop, length-append}
 use lib.Seq.{sets, sets-eq, take-at, split-at, length-take-le, getD-append-add, drop-append-add}
 use Rattle.promise.specs.Over.{storeThree}
-use Rattle.routes.specs.Routes.{routeAt, routeWords, wordsOf}
+use borrow.Author.Tests.{lt-ltb}
+use Rattle.routes.specs.Routes.{routeCount, storeRoute, routeAt, routeWords, wordsOf}
 use Rattle.routes.specs.declared.Route.{Route}
 
 pub length-words : (rs : List Route) → length (wordsOf rs) ≡ length rs * 3
@@ -20,6 +21,17 @@ pub words-append : (xs ys : List Route) → wordsOf (xs ++ ys) ≡ wordsOf xs ++
 unfolding wordsOf
 words-append [] ys = refl
 words-append (x ∷ xs) ys = ap (λ (ws : List ℕ). routeWords x ++ ws) (words-append xs ys)
+
+-- a route that is lent whole is stored word by word
+pub store-whole : (ws : List ℕ) (i : ℕ) (r : Route) → i * 3 + 3 ≤ length ws
+    → storeRoute ws i r ≡ storeThree ws (i * 3) (r .value) (r .len) (r .port)
+unfolding storeRoute
+store-whole ws i r h = rw (lt-ltb i (routeCount ws) (omega arith))
+
+pub store-sets : (ws : List ℕ) (i : ℕ) (r : Route) → i * 3 + 3 ≤ length ws → storeRoute ws i r ≡ sets ws (i * 3) (routeWords r)
+store-sets ws i r h =
+    let s : storeThree ws (i * 3) (r .value) (r .len) (r .port) ≡ sets ws (i * 3) (routeWords r) = simp towards-suc in
+    store-whole ws i r h ∙ s
 
 -- route j, where j routes of words stand before it
 module _ (X Y : List ℕ) (j : ℕ) (at : length X ≡ j * 3) where
@@ -34,12 +46,11 @@ module _ (X Y : List ℕ) (j : ℕ) (at : length X ≡ j * 3) where
       word k =
           ap (λ (a : ℕ). getD (X ++ (routeWords z ++ Y)) (a + k) 0) (sym at) ∙ getD-append-add X (routeWords z ++ Y) k 0
 
-  pub put-words : (h x : Route) → storeThree (X ++ (routeWords h ++ Y)) (j * 3) (x .value) (x .len) (x .port) ≡ X ++ (routeWords x ++ Y)
-  put-words h x =
+  pub store-words : (h x : Route) → storeRoute (X ++ (routeWords h ++ Y)) j x ≡ X ++ (routeWords x ++ Y)
+  store-words h x =
       let ws : List ℕ = X ++ (routeWords h ++ Y) in
-      let s : storeThree ws (j * 3) (x .value) (x .len) (x .port) ≡ sets ws (j * 3) (routeWords x) = simp towards-suc in
       let m : j * 3 + 3 ≤ length ws = omega (arith, length-append X (routeWords h ++ Y)) in
-      s
+      store-sets ws j x m
       ∙ sets-eq (routeWords x) ws (j * 3) m
       ∙ ap (λ (p : List ℕ). p ++ routeWords x ++ drop (j * 3 + 3) ws) (take-at X (routeWords h ++ Y) (j * 3) at)
       ∙ ap (λ (q : List ℕ). X ++ routeWords x ++ q) (ap (λ (a : ℕ). drop (a + 3) ws) (sym at) ∙ drop-append-add X (routeWords h ++ Y) 3)

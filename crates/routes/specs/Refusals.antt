@@ -3,6 +3,7 @@ use mathlib.Core.Bool.{Bool, cond}
 use Prim.Native.Nat.{ℕ}
 use lib.Dec.{eqb}
 use Rattle.routes.specs.declared.Answer.{Answer}
+use Rattle.routes.specs.declared.found.Found.{Found}
 
 -- the column "When" of the table, line by line
 abbrev pub shortFile : ℕ
@@ -67,3 +68,11 @@ unless fine number rest = cond fine rest number
 -- what comes after a check, if that accepts
 abbrev pub andThen : Answer → Answer → Answer
 andThen checked next = cond (eqb (checked .number) 0) next checked
+
+-- what a lookup answers that is done: the port, and the rows or nodes read
+abbrev pub found : ℕ → ℕ → Found
+found port reads = record { number = 0; port = port; reads = reads }
+
+-- a refused one: "all other results 0 (.. for a lookup the rows or nodes read so far)"
+abbrev pub lost : ℕ → ℕ → Found
+lost number reads = record { number = number; port = 0; reads = reads }

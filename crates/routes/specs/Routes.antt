@@ -1,10 +1,12 @@
 -- Defines the routes of a list, and when a route and a list are valid: rules, "A route list is three 32-bit words a route".
 -- Routes are numbered, so that no list is taken apart: R i is route i. Assumes nothing.
 use mathlib.Core.Path.{_≡_}
-use mathlib.Core.Bool.{true}
+use mathlib.Core.Bool.{true, cond}
 use mathlib.Core.List.{List, [], _∷_, _++_}
 use Prim.Native.Nat.{ℕ, _+_, _*_, _/_, _≤_, _<_, _%_, _^_}
+use lib.Dec.{ltb}
 use lib.ListN.{length, getD}
+use Rattle.promise.specs.Over.{storeThree}
 use Rattle.bits.specs.Bits.{prefixBits, bits}
 use Rattle.bits.specs.Prefix.{Valid, precedes}
 use Rattle.trie.specs.Routes.{Route as BitRoute}
@@ -14,13 +16,26 @@ use Rattle.routes.specs.declared.Route.{Route}
 abbrev pub route : ℕ → ℕ → ℕ → Route
 route value len port = record { value = value; len = len; port = port }
 
--- "three 32-bit words a route: value, length, port": the one place that says where route i lies
+-- no route: "Port 0 means no route and is never a route's port."
+abbrev pub noRoute : Route
+noRoute = route 0 0 0
+
+-- "three 32-bit words a route"
+abbrev pub routeSize : ℕ
+routeSize = 3
+
+-- "value, length, port": this and the next two say where route i lies; words past the end count as 0
 abbrev pub routeAt : List ℕ → ℕ → Route
-routeAt words i = route (getD words (i * 3) 0) (getD words (i * 3 + 1) 0) (getD words (i * 3 + 2) 0)
+routeAt words i = route (getD words (i * routeSize) 0) (getD words (i * routeSize + 1) 0) (getD words (i * routeSize + 2) 0)
 
 -- how many whole routes there are
 abbrev pub routeCount : List ℕ → ℕ
-routeCount words = length words / 3
+routeCount words = length words / routeSize
+
+-- the words with route i made r; past the whole routes nothing is stored
+unfoldable pub storeRoute : List ℕ → ℕ → Route → List ℕ
+storeRoute words i r =
+    cond (ltb i (routeCount words)) (storeThree words (i * routeSize) (r .value) (r .len) (r .port)) words
 
 -- the words of a route
 abbrev pub routeWords : Route → List ℕ

@@ -1,11 +1,10 @@
 // The route list: its refusals, its check and its plain scan. Three words a route: value, length, port.
 ghost use mathlib.Core.Path.{_≡_};
 ghost use mathlib.Core.Bool.{cond};
-ghost use Prim.Native.Nat.{_+_, _*_, _<_};
 ghost use lib.ListN.{getD};
 ghost use Rattle.prefix.specs.Prefixes.{prefix};
 ghost use Rattle.routes.specs.Refusals.{refused, accepted};
-ghost use Rattle.routes.specs.Routes.{routeAt};
+ghost use Rattle.routes.specs.Routes.{routeAt, storeRoute};
 ghost use Rattle.routes.specs.Check.{isPort, prefixFault, routeFault, faultAt, listCheck};
 ghost use Rattle.routes.specs.Scan.{routeMatches, listScan};
 use prefix::Prefix;
@@ -18,6 +17,7 @@ use refusal::TOO_MANY_ROUTES;
 use refusal::WRONG_PORT;
 use refusal::WRONG_SIZE;
 
+pub mod found;
 pub mod refusal;
 
 // What a call answers: the refusal's number and place, both 0 where it is done, and its one other result.
@@ -33,6 +33,9 @@ pub struct Route {
     pub len: u32,
     pub port: u32,
 }
+
+// The words of a route in a list: value, length, port.
+pub const ROUTE_SIZE: usize = 3;
 
 impl Answer {
     // A refusal: its number and its place, and the other result 0.
@@ -59,8 +62,15 @@ impl Answer {
 }
 
 impl Route {
+    // No route: port 0 is never a route's port.
+    pub const NONE: Route = Route {
+        value: 0,
+        len: 0,
+        port: 0,
+    };
+
     // The route's prefix, for the match test and the order.
-    fn prefix(self) -> Prefix
+    pub fn prefix(self) -> Prefix
         ensures { λ r. ⌜ r ≡ prefix (self .value) (self .len) ⌝ }
     {
         Prefix::new(self.value, self.len)
@@ -99,30 +109,52 @@ pub fn route_fault(route: Route) -> u32
     if is_port(route.port) { 0 } else { WRONG_PORT }
 }
 
-// Word k of route i; 0 past the end of the list.
-fn word_at(list: &[u32], i: usize, k: usize) -> u32
-    requires { ⌜ k < 3 ⌝ }
-    ensures { λ r. ⌜ r ≡ getD (now (list .entry)) (i * 3 + k) 0 ⌝ }
+// A word of a list; 0 past its end.
+fn word_at(list: &[u32], at: usize) -> u32
+    ensures { λ r. ⌜ r ≡ getD (now (list .entry)) at 0 ⌝ }
 {
-    if list.len() / 3 < i {
-        return 0;
+    if at < list.len() { list[at] } else { 0 }
+}
+
+// What there is of a route that is not lent whole: words past the end of the list count as 0.
+fn cut_route(list: &[u32], i: usize) -> Route
+    ensures { λ r. ⌜ r ≡ routeAt (now (list .entry)) i ⌝ }
+{
+    if list.len() / ROUTE_SIZE < i {
+        return Route::NONE;
     }
-    let row = i * 3;
-    if k < list.len() - row {
-        list[row + k]
-    } else {
-        0
+    let at = i * ROUTE_SIZE;
+    Route {
+        value: word_at(list, at),
+        len: word_at(list, at + 1),
+        port: word_at(list, at + 2),
     }
 }
 
-// Route i of a list; words past the end of the list count as 0.
+// Route i of a list. One test is enough where it is lent whole, as it is in every list that was checked.
 pub fn route_at(list: &[u32], i: usize) -> Route
     ensures { λ r. ⌜ r ≡ routeAt (now (list .entry)) i ⌝ }
 {
-    Route {
-        value: word_at(list, i, 0),
-        len: word_at(list, i, 1),
-        port: word_at(list, i, 2),
+    if i < list.len() / ROUTE_SIZE {
+        let at = i * ROUTE_SIZE;
+        return Route {
+            value: list[at],
+            len: list[at + 1],
+            port: list[at + 2],
+        };
+    }
+    cut_route(list, i)
+}
+
+// Stores route i of a list, where it is lent whole; no other word changes.
+pub fn store_route(list: &mut [u32], i: usize, r: Route)
+    ensures { λ _. ⌜ now (list .exit) ≡ storeRoute (now (list .entry)) i r ⌝ }
+{
+    if i < list.len() / ROUTE_SIZE {
+        let at = i * ROUTE_SIZE;
+        list[at] = r.value;
+        list[at + 1] = r.len;
+        list[at + 2] = r.port;
     }
 }
 
@@ -151,10 +183,10 @@ fn fault_at(list: &[u32], i: usize) -> u32
 pub fn check_list(list: &[u32]) -> Answer
     ensures { λ r. ⌜ r ≡ listCheck 32 (now (list .entry)) ⌝ }
 {
-    if list.len() % 3 != 0 {
+    if list.len() % ROUTE_SIZE != 0 {
         return Answer::refused(WRONG_SIZE, 0);
     }
-    let n = list.len() / 3;
+    let n = list.len() / ROUTE_SIZE;
     if MOST_ROUTES < n {
         return Answer::refused(TOO_MANY_ROUTES, 0);
     }
@@ -188,7 +220,7 @@ pub fn scan_list(list: &[u32], address: u32) -> Answer
     if checked.number != 0 {
         return checked;
     }
-    let n = list.len() / 3;
+    let n = list.len() / ROUTE_SIZE;
     let mut port = 0;
     let mut i = 0;
     while i < n {

@@ -9,7 +9,8 @@ use Rattle.routes.specs.declared.Route.{Route}
 use Rattle.table_rules.specs.Rows.{Mem, Layout, child, routeOf, withRoute, withChild}
 use Rattle.bits.specs.Bits.{bitBefore}
 use Rattle.table_rules.specs.Announce.{isSame}
-use Rattle.table_rules.specs.Withdraw.{noRoute, orRoute, firstRoute, bestAt, bestChild, bestBelow, isLast, Cut, cut, relink}
+use Rattle.table_rules.specs.Withdraw.{orRoute, firstRoute, bestAt, bestChild, bestBelow, isLast, Cut, cut, relink}
+use Rattle.routes.specs.Routes.{noRoute}
 use Rattle.table_rules.specs.declared.Row.{Row}
 use Rattle.table_change.specs.Refill.{refillOf, refillAt, cutAs}
 use Rattle.table_change.specs.declared.refilling.Refill.{Refill}

@@ -6,17 +6,8 @@ ghost use Rattle.table_rules.specs.Rows.{child, routeOf, leafRow, withRoute, wi
 ghost use Rattle.bits.specs.Bits.{bitBefore};
 ghost use Rattle.table_rules.specs.Announce.{isSame, outranksRow};
 use routes::Route;
+use table_rows::prefix_of;
 use table_rules::Row;
-
-pub(crate) fn route_of(x: Row) -> Route
-    ensures { λ r. ⌜ r ≡ routeOf x ⌝ }
-{
-    Route {
-        value: x.value,
-        len: x.len,
-        port: x.port,
-    }
-}
 
 // The row with another route, and the children that it has.
 pub(crate) fn with_route(x: Row, q: Route) -> Row
@@ -73,27 +64,18 @@ pub(crate) fn child_of(x: Row, right: bool) -> u32
     if right { x.right } else { x.left }
 }
 
-// The bit that has k bits after it.
-pub(crate) fn bit_before(value: u32, k: u32) -> bool
-    requires { ⌜ k < 32 ⌝ }
-    ensures { λ r. ⌜ r ≡ bitBefore value k ⌝ }
-{
-    (value >> k) % 2 == 1
-}
-
 // Whether the row's prefix is the route's.
 pub(crate) fn is_same(q: Route, x: Row) -> bool
     ensures { λ r. ⌜ r ≡ isSame q x ⌝ }
 {
-    (q.len == x.len) & (q.value == x.value)
+    q.prefix().is_same(prefix_of(x))
 }
 
 // Whether the route is to hold the row's place: the place's own prefix first, then the longer, then the smaller value.
 pub(crate) fn outranks_row(depth: u32, q: Route, x: Row) -> bool
     ensures { λ r. ⌜ r ≡ outranksRow depth q x ⌝ }
 {
-    (depth < x.len)
-        & (!(depth < q.len) | ((x.len < q.len) | ((x.len == q.len) & (q.value < x.value))))
+    (depth < x.len) & (!(depth < q.len) | q.prefix().is_ahead(prefix_of(x)))
 }
 
 pub(crate) fn route_if(first: bool, a: Route, b: Route) -> Route

@@ -2,26 +2,20 @@
 ghost use mathlib.Core.Path.{_≡_};
 ghost use Prim.Native.Nat.{_-_, _<_, _≤_};
 ghost use Rattle.table_rows.specs.Words.{fiveWords};
-ghost use Rattle.table_rules.specs.Withdraw.{noRoute, orRoute, firstRoute, bestChild, bestBelow, isLast, zeroRow, cut, relink, moveRow, closeGap, withdrawn};
+ghost use Rattle.table_rules.specs.Withdraw.{orRoute, firstRoute, bestChild, bestBelow, isLast, zeroRow, cut, relink, moveRow, closeGap, withdrawn};
+ghost use Rattle.routes.specs.Routes.{noRoute};
 ghost use Rattle.table_change.specs.Refill.{refillOf, refillAt, cutAs};
-use crate::place::bit_before;
 use crate::place::child_of;
 use crate::place::is_same;
 use crate::place::leaf_row;
-use crate::place::route_of;
 use crate::place::with_child;
 use crate::place::with_route;
+use prefix::bit_before;
 use routes::Route;
+use table_rows::route_of;
 use table_rows::row_at;
 use table_rows::store_row;
 use table_rules::Row;
-
-// No route: port 0 is never a route's port.
-const NO_ROUTE: Route = Route {
-    value: 0,
-    len: 0,
-    port: 0,
-};
 
 // The first route, and the second where that is none.
 fn or_route(a: Route, b: Route) -> Route
@@ -40,7 +34,7 @@ fn first_route(a: Route, b: Route) -> Route
     if a.port == 0 {
         return b;
     }
-    if (a.len < b.len) | ((a.len == b.len) & (b.value < a.value)) {
+    if b.prefix().is_ahead(a.prefix()) {
         b
     } else {
         a
@@ -53,7 +47,7 @@ fn best_child(rows: &[u32], left: u32, child: u32) -> Route
     ensures { λ r. ⌜ r ≡ bestChild 32 (fiveWords .get (now (rows .entry))) left child ⌝ }
 {
     if child == 0 {
-        return NO_ROUTE;
+        return Route::NONE;
     }
     let x = row_at(rows, child);
     if left == 0 {
@@ -170,7 +164,7 @@ pub fn take_route(rows: &mut [u32], n: u32, q: Route)
         close_gap(rows, n - 1, freed);
         return;
     }
-    store_row(rows, 0, leaf_row(NO_ROUTE));
+    store_row(rows, 0, leaf_row(Route::NONE));
 }
 
 // Row `last` fills the freed number where that is another, and is then five zeros.
@@ -178,9 +172,9 @@ fn close_gap(rows: &mut [u32], last: u32, freed: u32)
     ensures { λ _. ⌜ now (rows .exit) ≡ closeGap fiveWords 32 (cutAs (now (rows .entry)) freed) last ⌝ }
 {
     if freed == last {
-        store_row(rows, last, leaf_row(NO_ROUTE));
+        store_row(rows, last, leaf_row(Route::NONE));
         return;
     }
     move_row(rows, last, freed);
-    store_row(rows, last, leaf_row(NO_ROUTE));
+    store_row(rows, last, leaf_row(Route::NONE));
 }

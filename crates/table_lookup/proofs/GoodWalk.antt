@@ -8,13 +8,12 @@ use native.Mathlib.Nat.{pow-suc}
 use lib.Dec.{eqb, ltb}
 use lib.Pow.{pow-mono, pow-pos}
 use borrow.Author.Tests.{eq-eqb, ne-eqb, lt-ltb, le-ltb}
-use Rattle.bits.specs.Prefix.{Valid, first, middle}
+use Rattle.bits.specs.Prefix.{Valid, first, middle, aheadOf}
 use Rattle.bits.proofs.Prefix.{first-valid, halves}
 use Rattle.prefix.specs.Prefixes.{prefix, leftHalf, rightHalf}
 use Rattle.prefix.specs.declared.Prefix.{Prefix}
 use Rattle.table_rules.specs.Rows.{Mem, child}
 use Rattle.table_rules.specs.Lookup.{wrongRow}
-use Rattle.table_rules.specs.Order.{aheadOf}
 use Rattle.table_rules.specs.Check.{seen, noRows, wrongRows, firstSeen, seenJoin, pathOn, seenAt, isGood}
 use Rattle.table_rules.specs.declared.Row.{Row}
 use Rattle.table_rules.specs.declared.Seen.{Seen}

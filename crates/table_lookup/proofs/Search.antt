@@ -6,15 +6,16 @@ use native.Mathlib.Omega.{arith}
 use native.Mathlib.Nat.{sub-zero}
 use borrow.Author.Tests.{eq-eqb, ne-eqb, lt-ltb, le-ltb}
 use Rattle.table_rules.specs.Rows.{Mem, child}
-use Rattle.table_rules.specs.Lookup.{wrongRow, endsAt, betterOf, found, lost, visit, onward, walk, lookupIn}
+use Rattle.table_rules.specs.Lookup.{wrongRow, endsAt, betterOf, visit, onward, walk, lookupIn}
+use Rattle.routes.specs.Refusals.{found, lost, notInOrder}
 use Rattle.bits.specs.Bits.{bitBefore}
 use Rattle.table_rules.specs.declared.Row.{Row}
-use Rattle.table_rules.specs.declared.Found.{Found}
+use Rattle.routes.specs.declared.found.Found.{Found}
 use Rattle.table_rules.proofs.Right.{child-lt}
 
 -- a row by its two tests
 visit-by : (w : ℕ) (x : Row) (n a depth best reads : ℕ) (on : ℕ → Found) (b e : Bool) → wrongRow w x n a depth ≡ b → endsAt w x a depth ≡ e
-    → visit w x n a depth best reads on ≡ cond b (lost reads) (cond e (found (x .port) reads) (on (betterOf w x a best)))
+    → visit w x n a depth best reads on ≡ cond b (lost notInOrder reads) (cond e (found (x .port) reads) (on (betterOf w x a best)))
 visit-by w x n a depth best reads on b e eb ee = rw (eb, ee)
 
 module _ (w : ℕ) (M : Mem) (n a : ℕ) where
@@ -58,7 +59,7 @@ module _ (w : ℕ) (M : Mem) (n a : ℕ) where
     wrong-is : wrongRow w (M r) n a (w - k) ≡ b
     wrong-is = ap (λ (y : Row). wrongRow w y n a (w - k)) (sym is) ∙ sym eb
 
-    pub to-wrong : b ≡ true → lost (reads + 1) ≡ all
+    pub to-wrong : b ≡ true → lost notInOrder (reads + 1) ≡ all
     to-wrong t =
         sym (walk-visit k r best reads
         ∙ visit-by w (M r) n a (w - k) best (reads + 1) (after k r (reads + 1)) true (endsAt w (M r) a (w - k)) (wrong-is ∙ t) refl)
@@ -106,7 +107,7 @@ pub record Searching (w capacity : ℕ) (M : Mem) (n a left row best reads : ℕ
   pub rest : walk w M n a left row best reads ≡ lookupIn w capacity M n a
 
 module _ (w capacity : ℕ) (M : Mem) (n a : ℕ) where
-  pub lookup-past : capacity < n → lost 0 ≡ lookupIn w capacity M n a
+  pub lookup-past : capacity < n → lost notInOrder 0 ≡ lookupIn w capacity M n a
   unfolding lookupIn
   lookup-past h = rw (lt-ltb capacity n h)
 

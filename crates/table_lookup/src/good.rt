@@ -1,9 +1,8 @@
 // The walk of the check of good order: it reads each row at its path and marks nothing.
 ghost use mathlib.Core.Path.{_≡_};
 ghost use Prim.Native.Nat.{_-_, _^_, _<_, _≤_};
-ghost use Rattle.bits.specs.Prefix.{Valid};
+ghost use Rattle.bits.specs.Prefix.{Valid, aheadOf};
 ghost use Rattle.table_rows.specs.Words.{rowCount, rowAt};
-ghost use Rattle.table_rules.specs.Order.{aheadOf};
 ghost use Rattle.table_rules.specs.Check.{firstSeen, seenOver, seenJoin, seenAt};
 ghost use Rattle.table_rules.specs.Walk.{lastSeen, seenBelow};
 use crate::is_wrong;
@@ -30,7 +29,7 @@ const WRONG_ROWS: Seen = Seen {
 fn is_ahead(value: u32, len: u32, best: Seen) -> bool
     ensures { λ r. ⌜ r ≡ aheadOf value len (best .value) (best .len) ⌝ }
 {
-    (best.len < len) | ((best.len == len) & (value < best.value))
+    Prefix::new(value, len).is_ahead(Prefix::new(best.value, best.len))
 }
 
 // Of two subtrees, the one whose best goes first; one without rows never does.

@@ -4,16 +4,19 @@ ghost use Prim.Native.Nat.{_<_};
 ghost use Rattle.table_rules.specs.Rows.{child};
 ghost use Rattle.table_rows.specs.Words.{capacity, rowAt};
 ghost use Rattle.table_rules.specs.Check.{isGood};
-ghost use Rattle.table_rules.specs.Lookup.{wrongRow, rowMatches, endsAt, betterOf, found, lost, lookupIn};
+ghost use Rattle.table_rules.specs.Lookup.{wrongRow, rowMatches, endsAt, betterOf, lookupIn};
+ghost use Rattle.routes.specs.Refusals.{found, lost};
 ghost use Rattle.bits.specs.Bits.{bitBefore};
 ghost use Rattle.table_lookup.specs.Good.{tableCheck};
 use good::seen_at;
 use prefix::Prefix;
+use prefix::bit_before;
 use routes::Answer;
+use routes::found::Found;
 use routes::refusal::NOT_IN_ORDER;
 use table_rows::capacity_of;
+use table_rows::prefix_of;
 use table_rows::whole_row;
-use table_rules::Found;
 use table_rules::Row;
 
 mod good;
@@ -27,7 +30,7 @@ pub(crate) fn is_wrong(x: Row, n: u32, address: u32, depth: u32) -> bool
         | (n <= x.right)
         | (32 < x.len)
         | (x.len < depth)
-        | !Prefix::new(x.value, x.len).is_clear()
+        | !prefix_of(x).is_clear()
         | !routes::is_port(x.port)
         | !Prefix::new(address, depth).matches(x.value)
 }
@@ -36,7 +39,7 @@ pub(crate) fn is_wrong(x: Row, n: u32, address: u32, depth: u32) -> bool
 fn row_matches(x: Row, address: u32) -> bool
     ensures { λ r. ⌜ r ≡ rowMatches 32 x address ⌝ }
 {
-    Prefix::new(x.value, x.len).matches(address)
+    prefix_of(x).matches(address)
 }
 
 // Whether the row ends the search: a matching priority node.
@@ -59,35 +62,12 @@ fn better(x: Row, address: u32, best: u32) -> u32
 
 // The child that the address's bit names, where k bits come after it.
 fn child_on(x: Row, address: u32, k: u32) -> u32
-    requires { ⌜ k < 32 ⌝ }
     ensures { λ r. ⌜ r ≡ child x (bitBefore address k) ⌝ }
 {
-    if (address >> k) % 2 == 1 {
+    if bit_before(address, k) {
         x.right
     } else {
         x.left
-    }
-}
-
-// The answer of a search that ended.
-fn found_port(port: u32, reads: u32) -> Found
-    ensures { λ r. ⌜ r ≡ found port reads ⌝ }
-{
-    Found {
-        number: 0,
-        port,
-        reads,
-    }
-}
-
-// The answer of a refused search: 11, and the rows read so far.
-fn lost_at(reads: u32) -> Found
-    ensures { λ r. ⌜ r ≡ lost reads ⌝ }
-{
-    Found {
-        number: NOT_IN_ORDER,
-        port: 0,
-        reads,
     }
 }
 
@@ -97,10 +77,10 @@ pub fn lookup(rows: &[u32], n: u32, address: u32) -> Found
     ensures { λ r. ⌜ r ≡ lookupIn 32 (capacity (now (rows .entry))) (rowAt (now (rows .entry))) n address ⌝ }
 {
     if capacity_of(rows) < n {
-        return lost_at(0);
+        return Found::lost(NOT_IN_ORDER, 0);
     }
     if n == 0 {
-        return found_port(0, 0);
+        return Found::found(0, 0);
     }
     let mut left: u32 = 32;
     let mut row: u32 = 0;
@@ -111,20 +91,20 @@ pub fn lookup(rows: &[u32], n: u32, address: u32) -> Found
         let depth = 32 - left;
         reads += 1;
         if is_wrong(x, n, address, depth) {
-            return lost_at(reads);
+            return Found::lost(NOT_IN_ORDER, reads);
         }
         if ends(x, address, depth) {
-            return found_port(x.port, reads);
+            return Found::found(x.port, reads);
         }
         // An ordinary match does not end the search: a longer route may lie below it.
         best = better(x, address, best);
         if left == 0 {
-            return found_port(best, reads);
+            return Found::found(best, reads);
         }
         left -= 1;
         row = child_on(x, address, left);
         if row == 0 {
-            return found_port(best, reads);
+            return Found::found(best, reads);
         }
     }
 }

@@ -10,6 +10,10 @@ use Rattle.table_rows.proofs.row_at.Kinds as row-at-kinds
 use Rattle.table_rows.proofs.row_at.Reads as row-at-reads
 use Rattle.table_rows.proofs.store_row.Kinds as store-row-kinds
 use Rattle.table_rows.proofs.store_row.Reads as store-row-reads
+use Rattle.table_rows.proofs.prefix_of.Kinds as prefix-of-kinds
+use Rattle.table_rows.proofs.prefix_of.Reads as prefix-of-reads
+use Rattle.table_rows.proofs.route_of.Kinds as route-of-kinds
+use Rattle.table_rows.proofs.route_of.Reads as route-of-reads
 
 capacity-of-unique : Determined 1 capacity-of-kinds.ps capacity-of-kinds.r capacity-of-reads.Post (λ κs x s. x)
 capacity-of-unique κs a x y s t p q = p ∙ sym q
@@ -22,3 +26,9 @@ row-at-unique κs a x y s t p q = p ∙ sym q
 
 store-row-unique : Determined 1 store-row-kinds.ps store-row-kinds.r store-row-reads.Post (λ κs x s. now (s .0))
 store-row-unique κs a x y s t p q = p ∙ sym q
+
+prefix-of-unique : Determined 0 prefix-of-kinds.ps prefix-of-kinds.r prefix-of-reads.Post (λ κs x s. x)
+prefix-of-unique κs a x y s t p q = p ∙ sym q
+
+route-of-unique : Determined 0 route-of-kinds.ps route-of-kinds.r route-of-reads.Post (λ κs x s. x)
+route-of-unique κs a x y s t p q = p ∙ sym q

@@ -10,9 +10,13 @@ use Rattle.table_rules.specs.Rows.{Layout}
 use Rattle.table_rules.specs.Withdraw.{zeroRow}
 use Rattle.table_rules.specs.declared.Row.{Row}
 
+-- "A row is five 32-bit words"
+abbrev pub rowSize : ℕ
+rowSize = 5
+
 -- how many whole rows there are
 abbrev pub rowCount : List ℕ → ℕ
-rowCount words = length words / 5
+rowCount words = length words / rowSize
 
 -- "Capacity is the smaller of 4,096 and the number of whole rows lent."
 abbrev pub capacity : List ℕ → ℕ
@@ -21,17 +25,17 @@ capacity words = min mostRoutes (rowCount words)
 -- "value, length, port, left row, right row"
 abbrev pub wholeRow : List ℕ → ℕ → Row
 wholeRow words r = record {
-  value = getD words (r * 5) 0;
-  len = getD words (r * 5 + 1) 0;
-  port = getD words (r * 5 + 2) 0;
-  left = getD words (r * 5 + 3) 0;
-  right = getD words (r * 5 + 4) 0;
+  value = getD words (r * rowSize) 0;
+  len = getD words (r * rowSize + 1) 0;
+  port = getD words (r * rowSize + 2) 0;
+  left = getD words (r * rowSize + 3) 0;
+  right = getD words (r * rowSize + 4) 0;
 }
 
 abbrev pub storeWhole : List ℕ → ℕ → Row → List ℕ
 storeWhole words r x =
-    set (set (set (set (set words (r * 5) (x .value)) (r * 5 + 1) (x .len)) (r * 5 + 2) (x .port)) (r * 5 + 3) (x .left))
-    (r * 5 + 4) (x .right)
+    set (set (set (set (set words (r * rowSize) (x .value)) (r * rowSize + 1) (x .len)) (r * rowSize + 2) (x .port)) (r * rowSize + 3) (x .left))
+    (r * rowSize + 4) (x .right)
 
 -- past the whole rows: zeros are read, nothing is written
 unfoldable pub rowAt : List ℕ → ℕ → Row

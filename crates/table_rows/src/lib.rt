@@ -1,9 +1,16 @@
 // Where a row lies in the lent words: five words a row, value, length, port, left row, right row. Nothing else says so.
 ghost use mathlib.Core.Path.{_≡_};
 ghost use Prim.Native.Nat.{_<_};
+ghost use Rattle.prefix.specs.Prefixes.{prefix};
+ghost use Rattle.table_rules.specs.Rows.{routeOf};
 ghost use Rattle.table_rows.specs.Words.{rowCount, capacity, rowAt, storeRow};
+use prefix::Prefix;
+use routes::Route;
 use routes::refusal::MOST_ROUTES;
 use table_rules::Row;
+
+// The words of a row.
+pub const ROW_SIZE: usize = 5;
 
 const NO_ROW: Row = Row {
     value: 0,
@@ -17,7 +24,7 @@ const NO_ROW: Row = Row {
 pub fn capacity_of(rows: &[u32]) -> u32
     ensures { λ r. ⌜ r ≡ capacity (now (rows .entry)) ⌝ }
 {
-    let whole = rows.len() / 5;
+    let whole = rows.len() / ROW_SIZE;
     if whole < MOST_ROUTES {
         whole as u32
     } else {
@@ -30,7 +37,7 @@ pub fn whole_row(rows: &[u32], r: u32) -> Row
     requires { ⌜ r < rowCount (now rows) ⌝ }
     ensures { λ x. ⌜ x ≡ rowAt (now (rows .entry)) r ⌝ }
 {
-    let at = r as usize * 5;
+    let at = r as usize * ROW_SIZE;
     Row {
         value: rows[at],
         len: rows[at + 1],
@@ -44,7 +51,7 @@ pub fn whole_row(rows: &[u32], r: u32) -> Row
 pub fn row_at(rows: &[u32], r: u32) -> Row
     ensures { λ x. ⌜ x ≡ rowAt (now (rows .entry)) r ⌝ }
 {
-    if (r as usize) < rows.len() / 5 {
+    if (r as usize) < rows.len() / ROW_SIZE {
         whole_row(rows, r)
     } else {
         NO_ROW
@@ -55,12 +62,30 @@ pub fn row_at(rows: &[u32], r: u32) -> Row
 pub fn store_row(rows: &mut [u32], r: u32, x: Row)
     ensures { λ _. ⌜ now (rows .exit) ≡ storeRow (now (rows .entry)) r x ⌝ }
 {
-    if (r as usize) < rows.len() / 5 {
-        let at = r as usize * 5;
+    if (r as usize) < rows.len() / ROW_SIZE {
+        let at = r as usize * ROW_SIZE;
         rows[at] = x.value;
         rows[at + 1] = x.len;
         rows[at + 2] = x.port;
         rows[at + 3] = x.left;
         rows[at + 4] = x.right;
+    }
+}
+
+// A row's prefix.
+pub fn prefix_of(x: Row) -> Prefix
+    ensures { λ r. ⌜ r ≡ prefix (x .value) (x .len) ⌝ }
+{
+    Prefix::new(x.value, x.len)
+}
+
+// A row's route.
+pub fn route_of(x: Row) -> Route
+    ensures { λ r. ⌜ r ≡ routeOf x ⌝ }
+{
+    Route {
+        value: x.value,
+        len: x.len,
+        port: x.port,
     }
 }

@@ -13,8 +13,9 @@ use Rattle.trie.specs.Update.{Best, none, some, lift, firstOf, orOwn, below, be
 use Rattle.routes.specs.declared.Route.{Route}
 use Rattle.table_rules.specs.Rows.{Mem, child, routeOf}
 use Rattle.table_rules.specs.Holds.{Names, RowHolds, Holds}
-use Rattle.table_rules.specs.Order.{aheadOf}
-use Rattle.table_rules.specs.Withdraw.{noRoute, orRoute, firstRoute, bestAt, bestChild, bestBelow}
+use Rattle.bits.specs.Prefix.{aheadOf}
+use Rattle.table_rules.specs.Withdraw.{orRoute, firstRoute, bestAt, bestChild, bestBelow}
+use Rattle.routes.specs.Routes.{noRoute}
 use Rattle.table_rules.proofs.Paths.{At, at-priority, at-ahead}
 use Rattle.table_rules.proofs.Holds.{row-at, too-deep}
 use Rattle.table_rules.proofs.Announce.{RouteAt, at-of, route-row}

@@ -13,7 +13,7 @@ use Rattle.trie.specs.Update.{Best, none, some, lift, firstOf, orOwn, below, be
 use Rattle.table_rules.specs.Rows.{Mem, child}
 use Rattle.table_rules.specs.Holds.{Names, Holds}
 use Rattle.table_rules.specs.Lookup.{wrongRow}
-use Rattle.table_rules.specs.Order.{aheadOf}
+use Rattle.bits.specs.Prefix.{aheadOf}
 use Rattle.table_rules.specs.Check.{seen, noRows, wrongRows, firstSeen, seenOver, seenJoin, pathOn, seenAt}
 use Rattle.table_rules.specs.declared.Row.{Row}
 use Rattle.table_rules.specs.declared.Seen.{Seen}

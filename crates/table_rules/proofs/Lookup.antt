@@ -20,10 +20,11 @@ use Rattle.trie.proofs.Lookup.{port-is-scan}
 use Rattle.routes.specs.Routes.{ValidRoute}
 use Rattle.table_rules.specs.Rows.{Mem, child, routeOf}
 use Rattle.table_rules.specs.Holds.{Names, RowHolds, Holds, hit, times, Placed, HeldIn, GoodFor}
-use Rattle.table_rules.specs.Lookup.{wrongRow, rowMatches, endsAt, betterOf, found, lost, visit, onward, walk, lookupIn}
+use Rattle.table_rules.specs.Lookup.{wrongRow, rowMatches, endsAt, betterOf, visit, onward, walk, lookupIn}
+use Rattle.routes.specs.Refusals.{found, lost, notInOrder}
 use Rattle.table_rules.specs.Theorems.{LookupIsScan, ReadsLe}
 use Rattle.table_rules.specs.declared.Row.{Row}
-use Rattle.table_rules.specs.declared.Found.{Found}
+use Rattle.routes.specs.declared.found.Found.{Found}
 use Rattle.table_rules.proofs.Paths.{At, at-len, head-path, at-priority, at-matches}
 use Rattle.table_rules.proofs.Holds.{hit-same, row-at, child-lt, Below, below-child, below-once}
 
@@ -32,7 +33,7 @@ visit-on : (w : ℕ) (x : Row) (n a depth best rd : ℕ) (on : ℕ → Found) (m
     → rowMatches w x a ≡ m → ltb depth (x .len) ≡ p
     → visit w x n a depth best rd on ≡ cond (m && p) (found (x .port) rd) (on (cond m (x .port) best))
 visit-on w x n a depth best rd on m p wrong em ep =
-    ap (λ (b : Bool). cond b (lost rd) (cond (rowMatches w x a && ltb depth (x .len)) (found (x .port) rd) (on (cond (rowMatches w x a) (x .port) best)))) wrong
+    ap (λ (b : Bool). cond b (lost notInOrder rd) (cond (rowMatches w x a && ltb depth (x .len)) (found (x .port) rd) (on (cond (rowMatches w x a) (x .port) best)))) wrong
     ∙ ap₂ (λ (b c : Bool). cond (b && c) (found (x .port) rd) (on (cond b (x .port) best))) em ep
 
 module _ (w : ℕ) (M : Mem) (n a : ℕ) (fits : a < 2 ^ w) where
@@ -173,7 +174,7 @@ visit-reads : (w : ℕ) (x : Row) (n a depth best rd most : ℕ) (on : ℕ → F
     → visit w x n a depth best rd on .reads ≤ most
 visit-reads w x n a depth best rd most on h k = go (wrongRow w x n a depth) (endsAt w x a depth)
   where
-    go : (b e : Bool) → cond b (lost rd) (cond e (found (x .port) rd) (on (betterOf w x a best))) .reads ≤ most
+    go : (b e : Bool) → cond b (lost notInOrder rd) (cond e (found (x .port) rd) (on (betterOf w x a best))) .reads ≤ most
     go true e = h
     go false true = h
     go false false = k (betterOf w x a best)
@@ -198,7 +199,7 @@ pub reads-le : ReadsLe
 unfolding lookupIn
 reads-le w capacity M n a = go (ltb capacity n) (eqb n 0)
   where
-    go : (b e : Bool) → cond b (lost 0) (cond e (found 0 0) (walk w M n a w 0 0 0)) .reads ≤ w + 1
+    go : (b e : Bool) → cond b (lost notInOrder 0) (cond e (found 0 0) (walk w M n a w 0 0 0)) .reads ≤ w + 1
     go true e = omega arith
     go false true = omega arith
     go false false = omega (arith, walk-reads w M n a w 0 0 0)

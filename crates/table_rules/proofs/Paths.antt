@@ -11,12 +11,12 @@ use lib.ListN.{length, take, length-append}
 use lib.Seq.{take-take, take-append-seam}
 use borrow.Author.Tests.{eq-eqb, eqb-true, lt-ltb, le-ltb}
 use Rattle.bits.specs.Bits.{Bits, value, bits, prefixBits, same, begins}
-use Rattle.bits.specs.Prefix.{span, head, Valid, matches, first}
+use Rattle.bits.specs.Prefix.{span, head, Valid, matches, first, samePrefix, aheadOf}
 use Rattle.bits.proofs.Bits.{same-refl, same-eq, length-take-bits, length-bits, value-prefix-bits, value-append, begins-append, bit-at, matches-begins}
 use Rattle.bits.proofs.Prefix.{span-pos, first-valid}
 use Rattle.lists.proofs.Tests.{way, both, test-eq, eqb-same, ltb-same}
 use Rattle.trie.specs.Trie.{ahead, outranks, isPriority}
-use Rattle.table_rules.specs.Order.{samePrefix, aheadOf, outranksAt}
+use Rattle.table_rules.specs.Order.{outranksAt}
 
 -- the prefix of value v and length l goes on from the path with the bits s
 pub record At (w : ℕ) (path : Bits) (v l : ℕ) (s : Bits) : Type 0 where

@@ -5,7 +5,8 @@ use Prim.Native.Nat.{ℕ, zero, suc, _-_}
 use lib.Dec.{eqb}
 use Rattle.routes.specs.declared.Route.{Route}
 use Rattle.table_rules.specs.Rows.{Mem, Layout, child, routeOf, leafRow, withRoute, withChild}
-use Rattle.table_rules.specs.Order.{samePrefix, outranksAt}
+use Rattle.table_rules.specs.Order.{outranksAt}
+use Rattle.bits.specs.Prefix.{samePrefix}
 use Rattle.bits.specs.Bits.{bitBefore}
 use Rattle.table_rules.specs.declared.Row.{Row}
 

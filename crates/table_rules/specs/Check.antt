@@ -7,7 +7,7 @@ use Prim.Native.Nat.{ℕ, zero, suc, _+_, _-_, _*_, _^_}
 use lib.Dec.{eqb, ltb}
 use Rattle.bits.specs.Bits.{bit}
 use Rattle.table_rules.specs.Rows.{Mem, child}
-use Rattle.table_rules.specs.Order.{aheadOf}
+use Rattle.bits.specs.Prefix.{aheadOf}
 use Rattle.table_rules.specs.Lookup.{wrongRow}
 use Rattle.table_rules.specs.declared.Row.{Row}
 use Rattle.table_rules.specs.declared.Seen.{Seen}

@@ -3,11 +3,11 @@ use mathlib.Core.Bool.{Bool, cond, not, _&&_, _||_}
 use Prim.Native.Nat.{ℕ, zero, suc, _+_, _-_}
 use lib.Dec.{eqb, leb, ltb}
 use Rattle.bits.specs.Prefix.{clear, matches}
-use Rattle.routes.specs.Refusals.{notInOrder}
+use Rattle.routes.specs.Refusals.{notInOrder, found, lost}
 use Rattle.routes.specs.Check.{isPort}
 use Rattle.table_rules.specs.Rows.{Mem, child}
 use Rattle.table_rules.specs.declared.Row.{Row}
-use Rattle.table_rules.specs.declared.Found.{Found}
+use Rattle.routes.specs.declared.found.Found.{Found}
 use Rattle.bits.specs.Bits.{bitBefore}
 
 -- "a row read has either child number n or more, a length above 32 or below its depth, bits past its length, a port outside
@@ -28,17 +28,10 @@ endsAt w x a depth = rowMatches w x a && ltb depth (x .len)
 abbrev pub betterOf : ℕ → Row → ℕ → ℕ → ℕ
 betterOf w x a best = cond (rowMatches w x a) (x .port) best
 
-abbrev pub found : ℕ → ℕ → Found
-found port reads = record { number = 0; port = port; reads = reads }
-
--- "for a lookup the rows or nodes read so far"
-abbrev pub lost : ℕ → Found
-lost reads = record { number = notInOrder; port = 0; reads = reads }
-
 -- at a row that was read: refused, ended, or on with the best so far
 abbrev pub visit : ℕ → Row → ℕ → ℕ → ℕ → ℕ → ℕ → (ℕ → Found) → Found
 visit w x n a depth best reads on =
-    cond (wrongRow w x n a depth) (lost reads)
+    cond (wrongRow w x n a depth) (lost notInOrder reads)
     (cond (endsAt w x a depth) (found (x .port) reads) (on (betterOf w x a best)))
 
 -- on to a child: "No child ... ends it"
@@ -56,4 +49,4 @@ walk w M n a (suc k) r best reads =
 
 -- the lookup: "It answers 11 if n exceeds the capacity (no row read)"; "Nothing is read if n = 0"
 unfoldable pub lookupIn : ℕ → ℕ → Mem → ℕ → ℕ → Found
-lookupIn w capacity M n a = cond (ltb capacity n) (lost 0) (cond (eqb n 0) (found 0 0) (walk w M n a w 0 0 0))
+lookupIn w capacity M n a = cond (ltb capacity n) (lost notInOrder 0) (cond (eqb n 0) (found 0 0) (walk w M n a w 0 0 0))

@@ -2,15 +2,8 @@
 -- the one with the smallest value". Assumes nothing.
 use mathlib.Core.Bool.{Bool, not, _&&_, _||_}
 use Prim.Native.Nat.{ℕ}
-use lib.Dec.{eqb, ltb}
-
--- the prefixes (v, l) and (v′, l′) are one
-abbrev pub samePrefix : ℕ → ℕ → ℕ → ℕ → Bool
-samePrefix v l v′ l′ = eqb l l′ && eqb v v′
-
--- (v, l) goes before (v′, l′): it is longer, or as long and of smaller value
-abbrev pub aheadOf : ℕ → ℕ → ℕ → ℕ → Bool
-aheadOf v l v′ l′ = ltb l′ l || (eqb l′ l && ltb v v′)
+use lib.Dec.{ltb}
+use Rattle.bits.specs.Prefix.{aheadOf}
 
 -- (v, l) is to hold a place at this depth rather than (v′, l′): the place's own prefix first, then the one ahead
 abbrev pub outranksAt : ℕ → ℕ → ℕ → ℕ → ℕ → Bool

@@ -11,12 +11,12 @@ use Rattle.bits.specs.Prefix.{Valid}
 use Rattle.trie.specs.Routes.{Routes, upd, held}
 use Rattle.trie.specs.Scan.{scan}
 use Rattle.trie.specs.Trie.{reads}
-use Rattle.routes.specs.Refusals.{mostRoutes}
+use Rattle.routes.specs.Refusals.{mostRoutes, found}
 use Rattle.routes.specs.Routes.{route, bitRoute, ValidRoute, ValidList}
 use Rattle.routes.specs.declared.Route.{Route}
 use Rattle.table_rules.specs.Rows.{Mem, Layout, Stores}
 use Rattle.table_rules.specs.Holds.{Placed, GoodFor, GoodOrder}
-use Rattle.table_rules.specs.Lookup.{found, lookupIn}
+use Rattle.table_rules.specs.Lookup.{lookupIn}
 use Rattle.table_rules.specs.Check.{isGood}
 use Rattle.table_rules.specs.Save.{saved}
 use Rattle.table_rules.specs.Announce.{isHeld, announced}

@@ -1,20 +1,16 @@
 -- Defines how a route leaves the rows: rules, "Withdraw". "Where a route is taken out, the place it leaves is filled by the same
 -- rule from below, down to a leaf that falls away. Other places keep their rows, except that row n-1, where it is not the one
 -- freed, moves to the freed number and its parent follows. Row n-1 is then five zeros." Over any accessors of rows. Assumes nothing.
-use mathlib.Core.Bool.{Bool, true, false, cond, _&&_}
+use mathlib.Core.Bool.{Bool, cond, _&&_}
 use Prim.Native.Nat.{ℕ, zero, suc, _-_}
 use lib.Dec.{eqb, ltb}
-use Rattle.routes.specs.Routes.{route}
+use Rattle.routes.specs.Routes.{route, noRoute}
 use Rattle.routes.specs.declared.Route.{Route}
 use Rattle.table_rules.specs.Rows.{Mem, Layout, child, routeOf, leafRow, withRoute, withChild}
-use Rattle.table_rules.specs.Order.{aheadOf}
+use Rattle.bits.specs.Prefix.{aheadOf}
 use Rattle.bits.specs.Bits.{bitBefore}
 use Rattle.table_rules.specs.Announce.{isSame}
 use Rattle.table_rules.specs.declared.Row.{Row}
-
--- no route: "Port 0 means no route and is never a route's port."
-abbrev pub noRoute : Route
-noRoute = route 0 0 0
 
 -- the first route, and the second where that is none
 abbrev pub orRoute : Route → Route → Route

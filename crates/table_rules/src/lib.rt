@@ -10,13 +10,6 @@ pub struct Row {
     pub right: u32,
 }
 
-// What a lookup answers: the refusal's number, the best's port and the rows read.
-pub struct Found {
-    pub number: u32,
-    pub port: u32,
-    pub reads: u32,
-}
-
 // What the check of good order has seen of a subtree: how many rows, and the value and length of the one that goes first.
 pub struct Seen {
     pub wrong: bool,

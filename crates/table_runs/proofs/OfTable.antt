@@ -27,7 +27,7 @@ use Rattle.table_rules.proofs.Good.{check-is-good}
 use Rattle.table_rules.proofs.Save.{saved-is}
 use Rattle.table_rules.proofs.SavedLookup.{lookup-is-saved-scan}
 use Rattle.table_rules.proofs.Lookup.{lookup-is-scan}
-use Rattle.table_rules.specs.declared.Found.{Found}
+use Rattle.routes.specs.declared.found.Found.{Found}
 use Rattle.routes.proofs.Words.{get-words-at}
 use Rattle.runs_rules.specs.Runs.{Run}
 use Rattle.runs_rules.specs.Listing.{listed, mostRuns, writeRuns}

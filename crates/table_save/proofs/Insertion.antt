@@ -7,13 +7,13 @@ use native.Mathlib.Omega.{arith}
 use native.Mathlib.Nat.{add-zero}
 use lib.ListN.{length, getD, take, drop, length-append, take-append-drop}
 use lib.Seq.{sets, sets-eq, take-suc, take-length, length-take-le, drop-cons}
-use Rattle.routes.specs.Routes.{route, routeAt, routeWords, wordsOf}
+use Rattle.routes.specs.Routes.{route, routeAt, routeWords, wordsOf, storeRoute}
 use Rattle.routes.specs.declared.Route.{Route}
 use Rattle.table_rules.specs.Save.{insertRoute}
 use Rattle.table_rules.specs.Ascending.{Ascending}
 use Rattle.table_rules.proofs.Ascending.{ascending-front, insert-after, insert-among, length-insert}
-use Rattle.routes.proofs.Words.{length-words, words-append, get-words, put-words}
-use Rattle.table_save.specs.Writing.{putRoute, standsBefore, sunk}
+use Rattle.routes.proofs.Words.{length-words, words-append, get-words, store-words}
+use Rattle.table_save.specs.Writing.{standsBefore, sunk}
 
 module _ (P Q : List ℕ) (at : ℕ) (isP : length P ≡ at * 3) (q : Route) (B : List Route) (rises : Ascending B) where
   -- the words where m routes stand, then a route whose place is free, then those that moved up
@@ -40,10 +40,10 @@ module _ (P Q : List ℕ) (at : ℕ) (isP : length P ≡ at * 3) (q : Route) (B 
   front-suc m C h =
       ap (λ (A : List Route). A ++ C) (take-suc B m (route 0 0 0) h) ∙ append-assoc (take m B) (last m ∷ []) C
 
-  put-free : (m : ℕ) (h x : Route) (C : List Route) → m ≤ length B → putRoute (words m h C) (at + m) x ≡ words m x C
+  put-free : (m : ℕ) (h x : Route) (C : List Route) → m ≤ length B → storeRoute (words m h C) (at + m) x ≡ words m x C
   put-free m h x C l =
-      ap (λ (ws : List ℕ). putRoute ws (at + m) x) (apart (take m B) h C)
-      ∙ put-words (P ++ wordsOf (take m B)) (wordsOf C ++ Q) (at + m) (length-front m l) h x
+      ap (λ (ws : List ℕ). storeRoute ws (at + m) x) (apart (take m B) h C)
+      ∙ store-words (P ++ wordsOf (take m B)) (wordsOf C ++ Q) (at + m) (length-front m l) h x
       ∙ sym (apart (take m B) x C)
 
   get-last : (m : ℕ) (h : Route) (C : List Route) → m < length B → routeAt (words (suc m) h C) (at + m) ≡ last m
@@ -69,7 +69,7 @@ module _ (P Q : List ℕ) (at : ℕ) (isP : length P ≡ at * 3) (q : Route) (B 
         subst Ascending is-all (ascending-front (take (suc m) B) (drop (suc m) B) (subst Ascending (sym (take-append-drop (suc m) B)) rises))
 
     sinks-here : standsBefore (last m) q ≡ true
-        → putRoute (words (suc m) h C) (at + suc m) q ≡ P ++ (wordsOf (insertRoute q (take (suc m) B) ++ C) ++ Q)
+        → storeRoute (words (suc m) h C) (at + suc m) q ≡ P ++ (wordsOf (insertRoute q (take (suc m) B) ++ C) ++ Q)
     sinks-here t =
         put-free (suc m) h q C l
         ∙ ap (λ (A : List Route). P ++ (wordsOf A ++ Q))
@@ -78,7 +78,7 @@ module _ (P Q : List ℕ) (at : ℕ) (isP : length P ≡ at * 3) (q : Route) (B 
         ∙ ap (λ (A : List Route). A ++ C) (sym (insert-after q (last m) (take m B) all-rise t) ∙ ap (insertRoute q) (sym is-all)))
 
     sinks-on : Sinks m → standsBefore (last m) q ≡ false
-        → sunk (putRoute (words (suc m) h C) (at + suc m) (last m)) at m q ≡ P ++ (wordsOf (insertRoute q (take (suc m) B) ++ C) ++ Q)
+        → sunk (storeRoute (words (suc m) h C) (at + suc m) (last m)) at m q ≡ P ++ (wordsOf (insertRoute q (take (suc m) B) ++ C) ++ Q)
     sinks-on ih t =
         ap (λ (ws : List ℕ). sunk ws at m q)
         (put-free (suc m) h (last m) C l ∙ ap (λ (A : List Route). P ++ (wordsOf A ++ Q)) (front-suc m (last m ∷ C) l))
@@ -90,19 +90,19 @@ module _ (P Q : List ℕ) (at : ℕ) (isP : length P ≡ at * 3) (q : Route) (B 
     sinks-more : Sinks m → sunk (words (suc m) h C) at (suc m) q ≡ P ++ (wordsOf (insertRoute q (take (suc m) B) ++ C) ++ Q)
     unfolding sunk
     sinks-more ih =
-        ap (λ (r : Route). cond (standsBefore r q) (putRoute (words (suc m) h C) (at + suc m) q) (sunk (putRoute (words (suc m) h C) (at + suc m) r) at m q))
+        ap (λ (r : Route). cond (standsBefore r q) (storeRoute (words (suc m) h C) (at + suc m) q) (sunk (storeRoute (words (suc m) h C) (at + suc m) r) at m q))
         (get-last m h C l)
         ∙ go (standsBefore (last m) q) refl
       where
         go : (b : Bool) → standsBefore (last m) q ≡ b
-            → cond b (putRoute (words (suc m) h C) (at + suc m) q) (sunk (putRoute (words (suc m) h C) (at + suc m) (last m)) at m q)
+            → cond b (storeRoute (words (suc m) h C) (at + suc m) q) (sunk (storeRoute (words (suc m) h C) (at + suc m) (last m)) at m q)
             ≡ P ++ (wordsOf (insertRoute q (take (suc m) B) ++ C) ++ Q)
         go true t = sinks-here t
         go false t = sinks-on ih t
 
   sinks : (m : ℕ) → Sinks m
   unfolding sunk insertRoute
-  sinks zero h C l = ap (λ (i : ℕ). putRoute (words 0 h C) i q) (sym (add-zero at)) ∙ put-free 0 h q C l
+  sinks zero h C l = ap (λ (i : ℕ). storeRoute (words 0 h C) i q) (sym (add-zero at)) ∙ put-free 0 h q C l
   sinks (suc m) h C l = sinks-more m h C l (sinks m)
 
 -- three words of a list, and the rest
@@ -160,27 +160,27 @@ pub record Sinking (lent : List ℕ) (at end : ℕ) (q : Route) (words : List �
   pub kept : length words ≡ length lent
   pub rest : sunk words at (i - at) q ≡ sunk lent at (end - at) q
 
-pub sinking-last : (words : List ℕ) (at i : ℕ) (q : Route) → i ≡ at → putRoute words i q ≡ sunk words at (i - at) q
+pub sinking-last : (words : List ℕ) (at i : ℕ) (q : Route) → i ≡ at → storeRoute words i q ≡ sunk words at (i - at) q
 unfolding sunk
 sinking-last words at i q e =
-    let z : i - at ≡ 0 = omega arith in rw z (ap (λ (j : ℕ). putRoute words j q) e)
+    let z : i - at ≡ 0 = omega arith in rw z (ap (λ (j : ℕ). storeRoute words j q) e)
 
 -- r is the route before place i, b whether it stands before q
 module _ (words : List ℕ) (at i : ℕ) (q : Route) (more : at < i) (r : Route) (is : r ≡ routeAt words (i - 1))
     (b : Bool) (eb : b ≡ standsBefore r q) where
-  by-last : sunk words at (i - at) q ≡ cond b (putRoute words i q) (sunk (putRoute words i r) at (i - 1 - at) q)
+  by-last : sunk words at (i - at) q ≡ cond b (storeRoute words i q) (sunk (storeRoute words i r) at (i - 1 - at) q)
   unfolding sunk
   by-last =
       let k : i - at ≡ suc (i - 1 - at) = omega arith in
       let j : at + (i - 1 - at) ≡ i - 1 = omega arith in
       let l : at + suc (i - 1 - at) ≡ i = omega arith in
       ap (λ (m : ℕ). sunk words at m q) k
-      ∙ ap₂ (λ (x : Route) (y : ℕ). cond (standsBefore x q) (putRoute words y q) (sunk (putRoute words y x) at (i - 1 - at) q))
+      ∙ ap₂ (λ (x : Route) (y : ℕ). cond (standsBefore x q) (storeRoute words y q) (sunk (storeRoute words y x) at (i - 1 - at) q))
       (ap (routeAt words) j ∙ sym is) l
-      ∙ ap (λ (t : Bool). cond t (putRoute words i q) (sunk (putRoute words i r) at (i - 1 - at) q)) (sym eb)
+      ∙ ap (λ (t : Bool). cond t (storeRoute words i q) (sunk (storeRoute words i r) at (i - 1 - at) q)) (sym eb)
 
-  pub sinking-here : b ≡ true → putRoute words i q ≡ sunk words at (i - at) q
-  sinking-here t = sym (by-last ∙ ap (λ (t : Bool). cond t (putRoute words i q) (sunk (putRoute words i r) at (i - 1 - at) q)) t)
+  pub sinking-here : b ≡ true → storeRoute words i q ≡ sunk words at (i - at) q
+  sinking-here t = sym (by-last ∙ ap (λ (t : Bool). cond t (storeRoute words i q) (sunk (storeRoute words i r) at (i - 1 - at) q)) t)
 
-  pub sinking-next : b ≡ false → sunk (putRoute words i r) at (i - 1 - at) q ≡ sunk words at (i - at) q
-  sinking-next t = sym (by-last ∙ ap (λ (t : Bool). cond t (putRoute words i q) (sunk (putRoute words i r) at (i - 1 - at) q)) t)
+  pub sinking-next : b ≡ false → sunk (storeRoute words i r) at (i - 1 - at) q ≡ sunk words at (i - at) q
+  sinking-next t = sym (by-last ∙ ap (λ (t : Bool). cond t (storeRoute words i q) (sunk (storeRoute words i r) at (i - 1 - at) q)) t)

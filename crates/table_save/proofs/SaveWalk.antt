@@ -6,7 +6,6 @@ use mathlib.Core.List.{List, [], _∷_, _++_}
 use Prim.Native.Nat.{ℕ, zero, suc, _+_, _-_, _*_, _<_, _≤_}
 use native.Mathlib.Omega.{arith}
 use native.Mathlib.Nat.{add-zero, zero-add}
-use native.Mathlib.Numerals.{towards-suc}
 use lib.ListN.{length, drop, length-append}
 use lib.Seq.{sets, sets-eq}
 use borrow.Author.Tests.{eq-eqb, ne-eqb, le-leb, lt-leb}
@@ -16,7 +15,7 @@ use Rattle.routes.specs.declared.Route.{Route}
 use Rattle.table_rules.specs.Rows.{Mem, child, routeOf}
 use Rattle.table_rules.specs.Check.{isGood}
 use Rattle.table_rules.specs.Save.{insertRoute, savedAt, saveInto}
-use Rattle.routes.specs.Routes.{wordsOf}
+use Rattle.routes.specs.Routes.{wordsOf, storeRoute}
 use Rattle.table_rules.specs.declared.Row.{Row}
 use Rattle.table_rules.specs.Walk.{savedBelow}
 use Rattle.table_rules.specs.Ascending.{Ascending}
@@ -24,9 +23,9 @@ use Rattle.table_rules.specs.Ready.{Ready}
 use Rattle.table_rules.proofs.Good.{check-is-good}
 use Rattle.table_rules.proofs.Save.{good-ready, saved-is}
 use Rattle.table_rules.proofs.Ascending.{length-insert}
-use Rattle.routes.proofs.Words.{length-words, words-append}
+use Rattle.routes.proofs.Words.{length-words, words-append, store-sets}
 use Rattle.lists.proofs.Sets.{sets-append}
-use Rattle.table_save.specs.Writing.{putRoute, sunk, Wrote}
+use Rattle.table_save.specs.Writing.{sunk, Wrote}
 use Rattle.table_save.proofs.Insertion.{sunk-is}
 
 pub ready-row : (M : Mem) (room k r : ℕ) → Ready M room k r → r < room
@@ -45,17 +44,14 @@ pub size-last : (M : Mem) (k r : ℕ) → k ≡ 0 → length (savedAt M k r) ≡
 size-last M k r z = ap length (saved-last M k r z)
 
 pub wrote-last : (M : Mem) (k r at : ℕ) (x : Row) (q : Route) (lent left : List ℕ) → k ≡ 0 → x ≡ M r → q ≡ routeOf x
-    → left ≡ putRoute lent at q → Wrote (savedAt M k r) at (at + 1) lent left
+    → at * 3 + 3 ≤ length lent → left ≡ storeRoute lent at q → Wrote (savedAt M k r) at (at + 1) lent left
 unfolding wordsOf
-wrote-last M k r at x q lent left z is eq e = record {
+wrote-last M k r at x q lent left z is eq room e = record {
   end = sym (ap (λ (n : ℕ). at + n) (size-last M k r z));
   words =
-      e ∙ ap (putRoute lent at) (eq ∙ ap routeOf is) ∙ put-sets (routeOf (M r))
+      e ∙ ap (storeRoute lent at) (eq ∙ ap routeOf is) ∙ store-sets lent at (routeOf (M r)) room
       ∙ ap (λ (rs : List Route). sets lent (at * 3) (wordsOf rs)) (sym (saved-last M k r z));
 }
-  where
-    put-sets : (q : Route) → putRoute lent at q ≡ sets lent (at * 3) (wordsOf (q ∷ []))
-    put-sets q = simp towards-suc
 
 -- a row with bits left
 

@@ -5,24 +5,19 @@ use mathlib.Core.List.{List}
 use Prim.Native.Nat.{ℕ, zero, suc, _+_, _*_}
 use lib.ListN.{length}
 use lib.Seq.{sets}
-use Rattle.promise.specs.Over.{storeThree}
 use Rattle.bits.specs.Prefix.{precedes}
-use Rattle.routes.specs.Routes.{routeAt, wordsOf}
+use Rattle.routes.specs.Routes.{routeAt, wordsOf, storeRoute}
 use Rattle.routes.specs.declared.Route.{Route}
-
--- a list with route i made q
-abbrev pub putRoute : List ℕ → ℕ → Route → List ℕ
-putRoute words i q = storeThree words (i * 3) (q .value) (q .len) (q .port)
 
 abbrev pub standsBefore : Route → Route → Bool
 standsBefore a b = precedes (a .value) (a .len) (b .value) (b .len)
 
 -- q put into its place among the m routes from `at` on: from the last one down, each that does not stand before it moves up
 unfoldable pub sunk : List ℕ → ℕ → ℕ → Route → List ℕ
-sunk words at zero q = putRoute words at q
+sunk words at zero q = storeRoute words at q
 sunk words at (suc m) q =
-    cond (standsBefore (routeAt words (at + m)) q) (putRoute words (at + suc m) q)
-    (sunk (putRoute words (at + suc m) (routeAt words (at + m))) at m q)
+    cond (standsBefore (routeAt words (at + m)) q) (storeRoute words (at + suc m) q)
+    (sunk (storeRoute words (at + suc m) (routeAt words (at + m))) at m q)
 
 -- the routes rs were written from route `at` on, up to `next`
 pub record Wrote (rs : List Route) (at next : ℕ) (lent left : List ℕ) : Type 0 where

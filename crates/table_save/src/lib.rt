@@ -10,43 +10,24 @@ ghost use Rattle.table_rows.specs.Words.{rowCount, capacity, rowAt};
 ghost use Rattle.table_rules.specs.Save.{savedAt, saveInto};
 ghost use Rattle.table_rules.specs.Walk.{savedBelow};
 ghost use Rattle.table_rules.specs.Ready.{Ready};
-ghost use Rattle.table_save.specs.Writing.{putRoute, sunk, Wrote};
-use prefix::Prefix;
+ghost use Rattle.table_save.specs.Writing.{sunk, Wrote};
+ghost use Rattle.routes.specs.Routes.{storeRoute};
 use routes::Answer;
 use routes::Route;
 use routes::refusal::NO_ROOM;
 use routes::refusal::NOT_IN_ORDER;
+use routes::route_at;
+use routes::store_route;
 use table_lookup::is_good;
+use table_rows::route_of;
 use table_rows::row_at;
 use table_rules::Row;
-
-// A row's route.
-fn route_of(x: Row) -> Route
-    ensures { λ r. ⌜ r ≡ routeOf x ⌝ }
-{
-    Route {
-        value: x.value,
-        len: x.len,
-        port: x.port,
-    }
-}
 
 // Whether a route stands before another in a list.
 fn stands_before(a: Route, b: Route) -> bool
     ensures { λ r. ⌜ r ≡ precedes (a .value) (a .len) (b .value) (b .len) ⌝ }
 {
-    Prefix::new(a.value, a.len).precedes(Prefix::new(b.value, b.len))
-}
-
-// Stores route i of a list, which is lent whole.
-fn put_route(list: &mut [u32], i: usize, q: Route)
-    requires { ⌜ i * 3 + 2 < length (now list) ⌝ }
-    ensures { λ _. ⌜ now (list .exit) ≡ putRoute (now (list .entry)) i q ⌝ }
-{
-    let at = i * 3;
-    list[at] = q.value;
-    list[at + 1] = q.len;
-    list[at + 2] = q.port;
+    a.prefix().precedes(b.prefix())
 }
 
 // Puts a route into its place among the routes from `at` to `end`: each that stands after it moves up by one.
@@ -56,15 +37,15 @@ fn sink_route(list: &mut [u32], at: usize, end: usize, q: Route)
 {
     let mut i = end;
     while at < i {
-        let before = routes::route_at(list, i - 1);
+        let before = route_at(list, i - 1);
         if stands_before(before, q) {
-            put_route(list, i, q);
+            store_route(list, i, q);
             return;
         }
-        put_route(list, i, before);
+        store_route(list, i, before);
         i -= 1;
     }
-    put_route(list, i, q);
+    store_route(list, i, q);
 }
 
 // Writes the routes from a row on, with `left` bits after its depth, from route `at` of the list on. Answers where it ended.
@@ -74,7 +55,7 @@ fn save_at(rows: &[u32], left: u32, row: u32, list: &mut [u32], at: usize) -> us
 {
     let x = row_at(rows, row);
     if left == 0 {
-        put_route(list, at, route_of(x));
+        store_route(list, at, route_of(x));
         return at + 1;
     }
     let middle = save_below(rows, left - 1, x.left, list, at);

@@ -20,7 +20,7 @@ use Rattle.table_rules.specs.Rows.{Layout, Stores}
 use Rattle.table_rules.specs.Holds.{Placed, GoodFor}
 use Rattle.table_rules.specs.Check.{isGood}
 use Rattle.table_rules.specs.Announce.{isHeld}
-use Rattle.table_rules.specs.declared.Found.{Found}
+use Rattle.routes.specs.declared.found.Found.{Found}
 use Rattle.table_rules.proofs.Table.{held-is}
 use Rattle.table_rules.proofs.Lookup.{lookup-is-scan}
 use Rattle.table_rules.proofs.Good.{check-is-good, placed→held}

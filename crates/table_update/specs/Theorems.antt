@@ -13,7 +13,7 @@ use Rattle.routes.specs.declared.Route.{Route}
 use Rattle.table_rules.specs.Rows.{Layout}
 use Rattle.table_rules.specs.Holds.{GoodFor}
 use Rattle.table_rules.specs.Lookup.{lookupIn}
-use Rattle.table_rules.specs.declared.Found.{Found}
+use Rattle.routes.specs.declared.found.Found.{Found}
 use Rattle.table_update.specs.Calls.{announceInto, builtFrom}
 use Rattle.table_update.specs.History.{Call, announcing, Table, after, isAccepted, ran, callPrefix, callPort, portAfter, Fits, AllFit}
 

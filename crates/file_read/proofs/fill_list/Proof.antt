@@ -23,11 +23,8 @@ read-at-requires c κs =
     let a = s .args in
     filled-entire 32 (a .file .now) (a .list .now) (a .n) (s .pre) _ _ _ (l .loop .inv) (c .loop-test .taken)
 
-put-words-requires : tie.Need-put-words-requires Inv-loop μ-loop
-put-words-requires c κs =
-    let l = c .before .before .before .before in
-    let s = l .before .before .before in
-    omega (arith, s .pre .room, l .loop .inv .same)
+store-route-requires : tie.Need-store-route-requires Inv-loop μ-loop
+store-route-requires c κs = search needs
 
 prefix-bytes-requires : tie.Need-prefix-bytes-requires Inv-loop μ-loop
 prefix-bytes-requires c κs = search needs
@@ -56,7 +53,7 @@ loop-again c =
     let l = x .before .before in
     let s = l .before .before .before in
     let a = s .args in
-    filled-more 32 (a .file .now) (a .list .now) (a .n) (s .pre) _ _ _ (l .loop .inv) (x .before .loop-test .taken) _ _ _ (x .read-at .ensures) (p .put-words .ensures) (c .prefix-bytes .ensures .is)
+    filled-more 32 (a .file .now) (a .list .now) (a .n) (s .pre) _ _ _ (l .loop .inv) (x .before .loop-test .taken) _ _ _ (x .read-at .ensures) (p .store-route .ensures) (c .prefix-bytes .ensures .is)
 
 same-length : tie.Need-same-length Inv-loop μ-loop
 same-length c = c .before .loop .inv .same
@@ -76,7 +73,7 @@ fill-list-spec =
     μ-loop
     loop-holds
     read-at-requires
-    put-words-requires
+    store-route-requires
     prefix-bytes-requires
     add-at
     add-at-2

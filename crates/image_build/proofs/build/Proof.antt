@@ -1,7 +1,7 @@
 use mathlib.Core.Path.{sym, _∙_}
 use native.Mathlib.Omega.{arith}
 use denote.Ref.{now}
-use Rattle.image_lookup.proofs.Lookups.{strided}
+use Rattle.image_rules.proofs.Strides.{strided}
 use Rattle.image_build.proofs.Written.{leaves-small}
 use Rattle.image_build.proofs.Answers.{stride-bounds, build-wrong-stride, build-refused, accepted-list, build-no-nodes, build-no-ports, build-done, roomy}
 use borrow.Author.Needs.{needs}

@@ -1,4 +1,3 @@
-use Rattle.image_lookup.specs.Found.{foundOf}
 use Rattle.image_lookup.proofs.Turns.{Going, going-none, going-more, stride-off, turn-outside, turn-wide, turn-leaf, turn-child, turn-none, shr-zero→lt, ones-le}
 use mathlib.Core.Path.{_∙_, sym, ap, refl}
 use native.Mathlib.Omega.{arith}
@@ -31,16 +30,16 @@ sub-left c = search needs
 node-count-requires : tie.Need-node-count-requires Inv-loop μ-loop
 node-count-requires c κs = search needs
 
-refused-requires : tie.Need-refused-requires Inv-loop μ-loop
-refused-requires c κs = search needs
+lost-requires : tie.Need-lost-requires Inv-loop μ-loop
+lost-requires c κs = search needs
 
 returns : tie.Need-returns Inv-loop μ-loop
 returns c =
     let x = c .before .before .before .before .before .before .before .before .before .args in
     let l = c .before .before .before .before .before .loop in
     let n = c .before .before .before .before .before .before .slots-of in
-    c .refused .ensures
-    ∙ ap foundOf (sym (l .inv .same
+    c .lost .ensures
+    ∙ (sym (l .inv .same
     ∙ turn-outside (x .stride) (n .result) (n .ensures .0) (now (x .nodes)) (now (x .ports)) (x .address) (l .at .0) (l .reads) (l .left)
     (c .before .before .before .before .loop-test .taken) (omega (arith, c .before .before .before .node-count .ensures, c .before .if1 .taken))))
 
@@ -53,8 +52,8 @@ bitmap-of-requires c κs = search needs
 shr-if2 : tie.Need-shr-if2 Inv-loop μ-loop
 shr-if2 c = search needs
 
-refused-requires-2 : tie.Need-refused-requires-2 Inv-loop μ-loop
-refused-requires-2 c κs = search needs
+lost-requires-2 : tie.Need-lost-requires-2 Inv-loop μ-loop
+lost-requires-2 c κs = search needs
 
 returns-2 : tie.Need-returns-2 Inv-loop μ-loop
 returns-2 c =
@@ -62,8 +61,8 @@ returns-2 c =
     let l = c .before .before .before .before .before .before .before .loop in
     let n = c .before .before .before .before .before .before .before .before .slots-of in
     let b = c .before .before .bitmap-of in
-    c .refused2 .ensures
-    ∙ ap foundOf (sym (l .inv .same
+    c .lost2 .ensures
+    ∙ (sym (l .inv .same
     ∙ turn-wide (x .stride) (n .result) (n .ensures .0) (now (x .nodes)) (now (x .ports)) (x .address) (l .at .0) (l .reads)
     (record { some = l .inv .some; most = search needs }) (b .result) (b .ensures) (l .left)
     (c .before .before .before .before .before .before .loop-test .taken) (c .before .if2 .taken)))
@@ -106,7 +105,7 @@ returns-3 c =
     let o = c .before .before .before .before .ones-before in
     let t = c .before .before .before .is-leaf in
     c .port-at .ensures
-    ∙ ap foundOf (sym (l .inv .same
+    ∙ (sym (l .inv .same
     ∙ turn-leaf (x .stride) (n .result) (n .ensures .0) (now (x .nodes)) (now (x .ports)) (x .address) (l .at .0) (l .reads)
     (record { some = l .inv .some; most = search needs }) (b .result) (b .ensures) (c .before .before .before .before .before .if2 .left) (l .left)
     (c .before .before .before .before .before .before .before .before .before .before .loop-test .taken) _ refl
@@ -139,15 +138,15 @@ loop-again c =
     (record { some = l .inv .some; most = search needs }) (b .result) (b .ensures) (c .before .before .before .before .if2 .left) (l .left)
     more _ refl (o .result) (o .ensures) (t .result) (t .ensures) (c .before .if3 .left) (c .child-of .result .0) (c .child-of .ensures))
 
-refused-requires-3 : tie.Need-refused-requires-3 Inv-loop μ-loop
-refused-requires-3 c κs = search needs
+lost-requires-3 : tie.Need-lost-requires-3 Inv-loop μ-loop
+lost-requires-3 c κs = search needs
 
 returns-4 : tie.Need-returns-4 Inv-loop μ-loop
 returns-4 c =
     let x = c .before .before .before .before .before .before .args in
     let l = c .before .before .loop in
-    c .refused3 .ensures
-    ∙ ap foundOf (sym (l .inv .same
+    c .lost3 .ensures
+    ∙ (sym (l .inv .same
     ∙ turn-none (x .stride) (now (x .nodes)) (now (x .ports)) (x .address) (l .left) (l .at .0) (l .reads) (c .before .loop-test .left)))
 
 pub descend-spec : {M : Type 1} → statement M
@@ -161,12 +160,12 @@ descend-spec =
     loop-holds
     sub-left
     node-count-requires
-    refused-requires
+    lost-requires
     returns
     add-reads
     bitmap-of-requires
     shr-if2
-    refused-requires-2
+    lost-requires-2
     returns-2
     mul-j
     shr-j
@@ -180,5 +179,5 @@ descend-spec =
     child-of-requires
     loop-less
     loop-again
-    refused-requires-3
+    lost-requires-3
     returns-4)

@@ -22,8 +22,8 @@ descend-requires-3 c κs = search needs
 returns-3 : tie.Need-returns-3
 returns-3 c = rw (c .before .if3 .taken) (c .descend3 .ensures)
 
-refused-requires : tie.Need-refused-requires
-refused-requires c κs = search needs
+lost-requires : tie.Need-lost-requires
+lost-requires c κs = search needs
 
 returns-4 : tie.Need-returns-4
 unfolding lookupWords
@@ -33,7 +33,7 @@ returns-4 c =
       ne-eqb _ _ (c .before .before .if2 .left),
       ne-eqb _ _ (c .before .if3 .left),
     )
-    (c .refused .ensures)
+    (c .lost .ensures)
 
 pub lookup-spec : {M : Type 1} → statement M
 lookup-spec =
@@ -45,5 +45,5 @@ lookup-spec =
     returns-2
     descend-requires-3
     returns-3
-    refused-requires
+    lost-requires
     returns-4)

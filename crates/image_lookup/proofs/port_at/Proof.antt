@@ -1,18 +1,17 @@
 use mathlib.Core.Path.{_∙_, sym, ap}
 use denote.Ref.{now}
 use Rattle.image_rules.proofs.Walk.{leaf-at-is}
-use Rattle.image_lookup.specs.Found.{foundOf}
 use mathlib.Core.Path.{_∙_, sym}
 use borrow.Author.Tests.{lt-ltb, le-ltb, lt-leb}
 use borrow.Author.Needs.{needs}
 use Rattle.image_lookup.proofs.port_at.Statement.{statement}
 use Rattle.image_lookup.proofs.port_at.Tie as tie
 
-refused-requires : tie.Need-refused-requires
-refused-requires c κs = search needs
+lost-requires : tie.Need-lost-requires
+lost-requires c κs = search needs
 
 returns : tie.Need-returns
-returns c = simp (le-ltb _ _ (c .before .if1 .taken)) (c .refused .ensures)
+returns c = simp (le-ltb _ _ (c .before .if1 .taken)) (c .lost .ensures)
 
 mul-word : tie.Need-mul-word
 mul-word c = search needs
@@ -23,34 +22,34 @@ shared-slice-read-word c = search needs
 word-requires : tie.Need-word-requires
 word-requires c κs = search needs
 
-refused-requires-2 : tie.Need-refused-requires-2
-refused-requires-2 c κs = search needs
+lost-requires-2 : tie.Need-lost-requires-2
+lost-requires-2 c κs = search needs
 
 returns-2 : tie.Need-returns-2
 returns-2 c =
-    simp (lt-ltb _ _ (c .before .before .before .before .if1 .left), lt-leb _ _ (rw (c .before .before .word .ensures) at (c .before .if2 .taken))) (c .refused2 .ensures)
+    simp (lt-ltb _ _ (c .before .before .before .before .if1 .left), lt-leb _ _ (rw (c .before .before .word .ensures) at (c .before .if2 .taken))) (c .lost2 .ensures)
 
-answered-requires : tie.Need-answered-requires
-answered-requires c κs = search needs
+found-requires : tie.Need-found-requires
+found-requires c κs = search needs
 
 returns-3 : tie.Need-returns-3
 returns-3 c =
     let d = c .before .before .before .before in
     let x = d .before .before .args in
     let w = c .before .before .word in
-    c .answered .ensures
-    ∙ ap foundOf (sym (leaf-at-is (now (x .ports)) (x .leaf .0) (w .result) (x .reads) (d .if1 .left) (sym (w .ensures)) (c .before .if2 .left)))
+    c .found .ensures
+    ∙ (sym (leaf-at-is (now (x .ports)) (x .leaf .0) (w .result) (x .reads) (d .if1 .left) (sym (w .ensures)) (c .before .if2 .left)))
 
 pub port-at-spec : {M : Type 1} → statement M
 port-at-spec =
     tie.close
     (tie.spec
-    refused-requires
+    lost-requires
     returns
     mul-word
     shared-slice-read-word
     word-requires
-    refused-requires-2
+    lost-requires-2
     returns-2
-    answered-requires
+    found-requires
     returns-3)

@@ -1,4 +1,3 @@
-use Prim.Native.Nat.{_+_, _*_}
 use mathlib.Core.Path.{sym}
 use native.Mathlib.Omega.{arith}
 use lib.ListN.{List·getD-eq-default}
@@ -6,43 +5,17 @@ use borrow.Author.Needs.{needs}
 use Rattle.routes.proofs.word_at.Statement.{statement}
 use Rattle.routes.proofs.word_at.Tie as tie
 
-returns : tie.Need-returns
-returns c =
-    let a = c .before .args in
-    sym (List·getD-eq-default (a .list .now) 0 {n = a .i * 3 + a .k} (omega arith))
-
-mul-row : tie.Need-mul-row
-mul-row c = search needs
-
-sub-if2 : tie.Need-sub-if2
-sub-if2 c = search needs
-
-add-result : tie.Need-add-result
-add-result c = search needs
-
 mul-result : tie.Need-mul-result
 mul-result c = search needs
 
 shared-slice-read-result : tie.Need-shared-slice-read-result
 shared-slice-read-result c = search needs
 
-returns-2 : tie.Need-returns-2
-returns-2 c = search needs
+returns : tie.Need-returns
+returns c = search needs
 
-returns-3 : tie.Need-returns-3
-returns-3 c =
-    let a = c .before .before .args in
-    sym (List·getD-eq-default (a .list .now) 0 {n = a .i * 3 + a .k} (omega arith))
+returns-2 : tie.Need-returns-2
+returns-2 c = let a = c .before .args in sym (List·getD-eq-default (a .list .now) 0 {n = a .at} (omega arith))
 
 pub word-at-spec : {M : Type 1} → statement M
-word-at-spec =
-    tie.close
-    (tie.spec
-    returns
-    mul-row
-    sub-if2
-    add-result
-    mul-result
-    shared-slice-read-result
-    returns-2
-    returns-3)
+word-at-spec = tie.close (tie.spec mul-result shared-slice-read-result returns returns-2)

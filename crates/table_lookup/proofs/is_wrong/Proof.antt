@@ -4,8 +4,8 @@ use borrow.Author.Needs.{needs}
 use Rattle.table_lookup.proofs.is_wrong.Statement.{statement}
 use Rattle.table_lookup.proofs.is_wrong.Tie as tie
 
-new-requires : tie.Need-new-requires
-new-requires c κs = search needs
+prefix-of-requires : tie.Need-prefix-of-requires
+prefix-of-requires c κs = search needs
 
 is-clear-requires : tie.Need-is-clear-requires
 is-clear-requires c κs = search needs
@@ -13,8 +13,8 @@ is-clear-requires c κs = search needs
 is-port-requires : tie.Need-is-port-requires
 is-port-requires c κs = search needs
 
-new-requires-2 : tie.Need-new-requires-2
-new-requires-2 c κs = search needs
+new-requires : tie.Need-new-requires
+new-requires c κs = search needs
 
 matches-requires : tie.Need-matches-requires
 matches-requires c κs = search needs
@@ -22,17 +22,17 @@ matches-requires c κs = search needs
 returns : tie.Need-returns
 returns c =
     let a = c .before .before .before .before .before .before .before .before .before .args in
-    let zeros = prefix-test (clear 32) _ _ _ _ (c .before .before .before .before .new .ensures) (c .before .before .before .is-clear .ensures) in
-    let path = prefix-test (λ v l. matches 32 v l (a .x .value)) _ _ _ _ (c .before .new2 .ensures) (c .matches .ensures) in
+    let zeros = prefix-test (clear 32) _ _ _ _ (c .before .before .before .before .prefix-of .ensures) (c .before .before .before .is-clear .ensures) in
+    let path = prefix-test (λ v l. matches 32 v l (a .x .value)) _ _ _ _ (c .before .new .ensures) (c .matches .ensures) in
     rw (zeros, path, c .before .before .is-port .ensures)
 
 pub is-wrong-spec : {M : Type 1} → statement M
 is-wrong-spec =
     tie.close
     (tie.spec
-    new-requires
+    prefix-of-requires
     is-clear-requires
     is-port-requires
-    new-requires-2
+    new-requires
     matches-requires
     returns)

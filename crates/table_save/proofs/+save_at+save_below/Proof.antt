@@ -5,7 +5,7 @@ use borrow.Author.Needs.{needs}
 use lib.ListN.{length}
 use Rattle.table_rows.specs.Words.{rowCount, rowAt}
 use Rattle.table_save.proofs.SaveWalk.{ready-row, size-last, wrote-last, size-more, ready-child, wrote-more, wrote-none, below-is, wrote-below}
-use Prim.Native.Nat.{_*_, _+_}
+use Prim.Native.Nat.{_*_, _+_, _≤_}
 use Prim.Native.Nat.{ℕ, _<_}
 use borrow.Fn.Kinds.{In}
 use borrow.Fn.PlainCycle.{Measures, is, falls, and}
@@ -16,8 +16,8 @@ use Rattle.table_save.proofs.save_below.Reads as save-below
 use Rattle.table_save.proofs.save_below.Kinds as save-below-kinds
 use Rattle.table_save.proofs.+save_at+save_below.Lts-save_below as save-below-lts
 use Rattle.table_rows.proofs.row_at.Reads as row-at-reads
-use Rattle.table_save.proofs.put_route.Reads as put-route-reads
-use Rattle.table_save.proofs.route_of.Reads as route-of-reads
+use Rattle.routes.proofs.store_route.Reads as store-route-reads
+use Rattle.table_rows.proofs.route_of.Reads as route-of-reads
 use Rattle.table_save.proofs.sink_route.Reads as sink-route-reads
 use Rattle.table_save.proofs.+save_at+save_below.{statement}
 use Rattle.table_save.proofs.+save_at+save_below.Tie.{close}
@@ -47,8 +47,8 @@ save-at-row-at-requires : (t : ℕ) → save-at-lts.Need-row-at-requires (
   row-at-reads.Learnt,
   route-of-reads.Asked,
   route-of-reads.Learnt,
-  put-route-reads.Asked,
-  put-route-reads.Learnt,
+  store-route-reads.Asked,
+  store-route-reads.Learnt,
   save-below-below t,
   save-below.Post,
   sink-route-reads.Asked,
@@ -61,8 +61,8 @@ save-at-route-of-requires : (t : ℕ) → save-at-lts.Need-route-of-requires (
   row-at-reads.Learnt,
   route-of-reads.Asked,
   route-of-reads.Learnt,
-  put-route-reads.Asked,
-  put-route-reads.Learnt,
+  store-route-reads.Asked,
+  store-route-reads.Learnt,
   save-below-below t,
   save-below.Post,
   sink-route-reads.Asked,
@@ -70,29 +70,27 @@ save-at-route-of-requires : (t : ℕ) → save-at-lts.Need-route-of-requires (
 ) (save-at-at t) save-at.Post
 save-at-route-of-requires t c κs = search needs
 
-save-at-put-route-requires : (t : ℕ) → save-at-lts.Need-put-route-requires (
+save-at-store-route-requires : (t : ℕ) → save-at-lts.Need-store-route-requires (
   row-at-reads.Asked,
   row-at-reads.Learnt,
   route-of-reads.Asked,
   route-of-reads.Learnt,
-  put-route-reads.Asked,
-  put-route-reads.Learnt,
+  store-route-reads.Asked,
+  store-route-reads.Learnt,
   save-below-below t,
   save-below.Post,
   sink-route-reads.Asked,
   sink-route-reads.Learnt,
 ) (save-at-at t) save-at.Post
-save-at-put-route-requires t c κs =
-    let a = c .before .before .before .before .before .before in
-    omega (arith, size-last (rowAt (a .args .rows .now)) (a .args .left) (a .args .row) (c .before .before .if1 .taken), a .pre .1 .1)
+save-at-store-route-requires t c κs = search needs
 
 save-at-add-result : (t : ℕ) → save-at-lts.Need-add-result (
   row-at-reads.Asked,
   row-at-reads.Learnt,
   route-of-reads.Asked,
   route-of-reads.Learnt,
-  put-route-reads.Asked,
-  put-route-reads.Learnt,
+  store-route-reads.Asked,
+  store-route-reads.Learnt,
   save-below-below t,
   save-below.Post,
   sink-route-reads.Asked,
@@ -107,22 +105,22 @@ save-at-same-length : (t : ℕ) → save-at-lts.Need-same-length (
   row-at-reads.Learnt,
   route-of-reads.Asked,
   route-of-reads.Learnt,
-  put-route-reads.Asked,
-  put-route-reads.Learnt,
+  store-route-reads.Asked,
+  store-route-reads.Learnt,
   save-below-below t,
   save-below.Post,
   sink-route-reads.Asked,
   sink-route-reads.Learnt,
 ) (save-at-at t) save-at.Post
-save-at-same-length t c = c .before .before .put-route .kept .0
+save-at-same-length t c = c .before .before .store-route .kept .0
 
 save-at-returns : (t : ℕ) → save-at-lts.Need-returns (
   row-at-reads.Asked,
   row-at-reads.Learnt,
   route-of-reads.Asked,
   route-of-reads.Learnt,
-  put-route-reads.Asked,
-  put-route-reads.Learnt,
+  store-route-reads.Asked,
+  store-route-reads.Learnt,
   save-below-below t,
   save-below.Post,
   sink-route-reads.Asked,
@@ -132,15 +130,17 @@ save-at-returns t c =
     let p = c .before .before in
     let i = p .before .before .before in
     let a = i .before .before .before .before in
-    wrote-last (rowAt (a .args .rows .now)) (a .args .left) (a .args .row) (a .args .at) _ _ _ _ (i .if1 .taken) (i .before .row-at .ensures) (p .before .route-of .ensures) (p .put-route .ensures)
+    let last = size-last (rowAt (a .args .rows .now)) (a .args .left) (a .args .row) (i .if1 .taken) in
+    let room : a .args .at * 3 + 3 ≤ length (a .args .list .now) = omega (arith, last, a .pre .1 .1) in
+    wrote-last (rowAt (a .args .rows .now)) (a .args .left) (a .args .row) (a .args .at) _ _ _ _ (i .if1 .taken) (i .before .row-at .ensures) (p .before .route-of .ensures) room (p .store-route .ensures)
 
 save-at-sub-save-below : (t : ℕ) → save-at-lts.Need-sub-save-below (
   row-at-reads.Asked,
   row-at-reads.Learnt,
   route-of-reads.Asked,
   route-of-reads.Learnt,
-  put-route-reads.Asked,
-  put-route-reads.Learnt,
+  store-route-reads.Asked,
+  store-route-reads.Learnt,
   save-below-below t,
   save-below.Post,
   sink-route-reads.Asked,
@@ -155,8 +155,8 @@ save-at-save-below-requires : (t : ℕ) → save-at-lts.Need-save-below-requires
   row-at-reads.Learnt,
   route-of-reads.Asked,
   route-of-reads.Learnt,
-  put-route-reads.Asked,
-  put-route-reads.Learnt,
+  store-route-reads.Asked,
+  store-route-reads.Learnt,
   save-below-below t,
   save-below.Post,
   sink-route-reads.Asked,
@@ -179,8 +179,8 @@ save-at-sub-save-below-2 : (t : ℕ) → save-at-lts.Need-sub-save-below-2 (
   row-at-reads.Learnt,
   route-of-reads.Asked,
   route-of-reads.Learnt,
-  put-route-reads.Asked,
-  put-route-reads.Learnt,
+  store-route-reads.Asked,
+  store-route-reads.Learnt,
   save-below-below t,
   save-below.Post,
   sink-route-reads.Asked,
@@ -195,8 +195,8 @@ save-at-save-below-requires-2 : (t : ℕ) → save-at-lts.Need-save-below-requir
   row-at-reads.Learnt,
   route-of-reads.Asked,
   route-of-reads.Learnt,
-  put-route-reads.Asked,
-  put-route-reads.Learnt,
+  store-route-reads.Asked,
+  store-route-reads.Learnt,
   save-below-below t,
   save-below.Post,
   sink-route-reads.Asked,
@@ -226,8 +226,8 @@ save-at-route-of-requires-2 : (t : ℕ) → save-at-lts.Need-route-of-requires-2
   row-at-reads.Learnt,
   route-of-reads.Asked,
   route-of-reads.Learnt,
-  put-route-reads.Asked,
-  put-route-reads.Learnt,
+  store-route-reads.Asked,
+  store-route-reads.Learnt,
   save-below-below t,
   save-below.Post,
   sink-route-reads.Asked,
@@ -240,8 +240,8 @@ save-at-sink-route-requires : (t : ℕ) → save-at-lts.Need-sink-route-requires
   row-at-reads.Learnt,
   route-of-reads.Asked,
   route-of-reads.Learnt,
-  put-route-reads.Asked,
-  put-route-reads.Learnt,
+  store-route-reads.Asked,
+  store-route-reads.Learnt,
   save-below-below t,
   save-below.Post,
   sink-route-reads.Asked,
@@ -271,8 +271,8 @@ save-at-add-result-2 : (t : ℕ) → save-at-lts.Need-add-result-2 (
   row-at-reads.Learnt,
   route-of-reads.Asked,
   route-of-reads.Learnt,
-  put-route-reads.Asked,
-  put-route-reads.Learnt,
+  store-route-reads.Asked,
+  store-route-reads.Learnt,
   save-below-below t,
   save-below.Post,
   sink-route-reads.Asked,
@@ -298,8 +298,8 @@ save-at-same-length-2 : (t : ℕ) → save-at-lts.Need-same-length-2 (
   row-at-reads.Learnt,
   route-of-reads.Asked,
   route-of-reads.Learnt,
-  put-route-reads.Asked,
-  put-route-reads.Learnt,
+  store-route-reads.Asked,
+  store-route-reads.Learnt,
   save-below-below t,
   save-below.Post,
   sink-route-reads.Asked,
@@ -316,8 +316,8 @@ save-at-returns-2 : (t : ℕ) → save-at-lts.Need-returns-2 (
   row-at-reads.Learnt,
   route-of-reads.Asked,
   route-of-reads.Learnt,
-  put-route-reads.Asked,
-  put-route-reads.Learnt,
+  store-route-reads.Asked,
+  store-route-reads.Learnt,
   save-below-below t,
   save-below.Post,
   sink-route-reads.Asked,
@@ -380,8 +380,8 @@ pub +save-at+save-below-spec : {M : Type 1} → statement M
   row-at-reads.Learnt,
   route-of-reads.Asked,
   route-of-reads.Learnt,
-  put-route-reads.Asked,
-  put-route-reads.Learnt,
+  store-route-reads.Asked,
+  store-route-reads.Learnt,
   save-below-below t,
   save-below.Post,
   sink-route-reads.Asked,
@@ -391,7 +391,7 @@ pub +save-at+save-below-spec : {M : Type 1} → statement M
     save-at.Post
     (save-at-row-at-requires t)
     (save-at-route-of-requires t)
-    (save-at-put-route-requires t)
+    (save-at-store-route-requires t)
     (save-at-add-result t)
     (save-at-same-length t)
     (save-at-returns t)

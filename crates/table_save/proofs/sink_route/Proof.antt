@@ -27,25 +27,25 @@ route-at-requires c κs = search needs
 stands-before-requires : tie.Need-stands-before-requires Inv-loop μ-loop
 stands-before-requires c κs = search needs
 
-put-route-requires : tie.Need-put-route-requires Inv-loop μ-loop
-put-route-requires c κs = omega arith
+store-route-requires : tie.Need-store-route-requires Inv-loop μ-loop
+store-route-requires c κs = search needs
 
 same-length : tie.Need-same-length Inv-loop μ-loop
 same-length c =
     let p = c .before .before in
-    p .put-route .kept .0 ∙ p .before .before .before .before .before .before .before .loop .inv .kept
+    p .store-route .kept .0 ∙ p .before .before .before .before .before .before .before .loop .inv .kept
 
 returns : tie.Need-returns Inv-loop μ-loop
 returns c =
     let p = c .before .before in
     let s = p .before .before .before in
     let l = s .before .before .before .before in
-    p .put-route .ensures
+    p .store-route .ensures
     ∙ sinking-here (l .loop .list) _ _ _ (s .before .before .before .loop-test .taken) _ (s .before .route-at .ensures) _ (s .stands-before .ensures) (p .before .before .if1 .taken)
     ∙ l .loop .inv .rest
 
-put-route-requires-2 : tie.Need-put-route-requires-2 Inv-loop μ-loop
-put-route-requires-2 c κs = omega arith
+store-route-requires-2 : tie.Need-store-route-requires-2 Inv-loop μ-loop
+store-route-requires-2 c κs = search needs
 
 sub-i : tie.Need-sub-i Inv-loop μ-loop
 sub-i c = omega arith
@@ -62,27 +62,27 @@ loop-again c =
     record {
       low = omega arith;
       high = omega arith;
-      kept = p .put-route2 .kept .0 ∙ v .kept;
+      kept = p .store-route2 .kept .0 ∙ v .kept;
       rest =
-          ap (λ (ws : List ℕ). sunk ws (l .before .before .args .at) (l .loop .i - 1 - l .before .before .args .at) (l .before .before .args .q)) (p .put-route2 .ensures)
+          ap (λ (ws : List ℕ). sunk ws (l .before .before .args .at) (l .loop .i - 1 - l .before .before .args .at) (l .before .before .args .q)) (p .store-route2 .ensures)
           ∙ sinking-next (l .loop .list) _ _ _ (s .before .before .before .loop-test .taken) _ (s .before .route-at .ensures) _ (s .stands-before .ensures) (p .before .before .if1 .left)
           ∙ v .rest;
     }
 
-put-route-requires-3 : tie.Need-put-route-requires-3 Inv-loop μ-loop
-put-route-requires-3 c κs = omega arith
+store-route-requires-3 : tie.Need-store-route-requires-3 Inv-loop μ-loop
+store-route-requires-3 c κs = search needs
 
 same-length-2 : tie.Need-same-length-2 Inv-loop μ-loop
 same-length-2 c =
     let p = c .before .before in
-    p .put-route3 .kept .0 ∙ p .before .before .before .loop .inv .kept
+    p .store-route3 .kept .0 ∙ p .before .before .before .loop .inv .kept
 
 returns-2 : tie.Need-returns-2 Inv-loop μ-loop
 returns-2 c =
     let p = c .before .before in
     let l = p .before .before .before in
     let v = l .loop .inv in
-    p .put-route3 .ensures ∙ sinking-last (l .loop .list) _ _ _ (omega arith) ∙ v .rest
+    p .store-route3 .ensures ∙ sinking-last (l .loop .list) _ _ _ (omega arith) ∙ v .rest
 
 pub sink-route-spec : {M : Type 1} → statement M
 sink-route-spec =
@@ -94,13 +94,13 @@ sink-route-spec =
     sub-route-at
     route-at-requires
     stands-before-requires
-    put-route-requires
+    store-route-requires
     same-length
     returns
-    put-route-requires-2
+    store-route-requires-2
     sub-i
     loop-less
     loop-again
-    put-route-requires-3
+    store-route-requires-3
     same-length-2
     returns-2)

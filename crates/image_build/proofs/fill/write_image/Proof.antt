@@ -1,5 +1,5 @@
 use denote.Ref.{now}
-use Rattle.image_lookup.proofs.Lookups.{strided}
+use Rattle.image_rules.proofs.Strides.{strided}
 use Rattle.image_build.proofs.Written.{root-stored, rooted-ready, image-written}
 use borrow.Author.Needs.{needs}
 use Rattle.image_build.proofs.fill.write_image.Statement.{statement}

@@ -1,4 +1,4 @@
-use Rattle.maftehon.proofs.Laid.{replied-is}
+use Rattle.maftehon.proofs.Reply.{replied-is}
 use borrow.Author.Needs.{needs}
 use Rattle.maftehon.proofs.files.mft_file_write.Statement.{statement}
 use Rattle.maftehon.proofs.files.mft_file_write.Tie as tie

@@ -1,4 +1,4 @@
-use Rattle.maftehon.proofs.Laid.{replied-image-is}
+use Rattle.maftehon.proofs.Reply.{replied-image-is}
 use borrow.Author.Needs.{needs}
 use Rattle.maftehon.proofs.images.mft_image_build.Statement.{statement}
 use Rattle.maftehon.proofs.images.mft_image_build.Tie as tie

@@ -11,7 +11,7 @@ looked-requires : tie.Need-looked-requires
 looked-requires c κs = search needs
 
 returns : tie.Need-returns
-returns c = c .looked .ensures ∙ ap (λ x. looked (x .number) (x .port) (x .reads)) (c .before .before .lookup-2 .ensures)
+returns c = c .looked .ensures ∙ ap looked (c .before .before .lookup-2 .ensures)
 
 pub mft-image-lookup-2-spec : {M : Type 1} → statement M
 mft-image-lookup-2-spec = tie.close (tie.spec lookup-2-requires looked-requires returns)

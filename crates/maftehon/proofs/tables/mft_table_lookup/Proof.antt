@@ -11,7 +11,7 @@ looked-requires : tie.Need-looked-requires
 looked-requires c κs = search needs
 
 returns : tie.Need-returns
-returns c = c .looked .ensures ∙ ap (λ x. looked (x .number) (x .port) (x .reads)) (c .before .before .lookup .ensures)
+returns c = c .looked .ensures ∙ ap looked (c .before .before .lookup .ensures)
 
 pub mft-table-lookup-spec : {M : Type 1} → statement M
 mft-table-lookup-spec = tie.close (tie.spec lookup-requires looked-requires returns)

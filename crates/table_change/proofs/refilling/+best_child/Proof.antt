@@ -2,7 +2,7 @@ use borrow.Author.Needs.{needs}
 use native.Mathlib.Omega.{arith}
 use mathlib.Core.Path.{refl}
 use Rattle.table_rows.specs.Words.{fiveWords}
-use Rattle.table_rules.specs.Withdraw.{noRoute}
+use Rattle.routes.specs.Routes.{noRoute}
 use Rattle.table_change.proofs.Withdraw.{best-none, best-last, best-priority, best-ordinary}
 use Prim.Native.Nat.{ℕ, _<_}
 use borrow.Fn.Kinds.{In}
@@ -11,7 +11,7 @@ use Rattle.table_change.proofs.refilling.best_child.Reads as best-child
 use Rattle.table_change.proofs.refilling.best_child.Kinds as best-child-kinds
 use Rattle.table_change.proofs.refilling.+best_child.Lts-best_child as best-child-lts
 use Rattle.table_rows.proofs.row_at.Reads as row-at-reads
-use Rattle.table_change.proofs.place.route_of.Reads as route-of-reads
+use Rattle.table_rows.proofs.route_of.Reads as route-of-reads
 use Rattle.table_change.proofs.refilling.first_route.Reads as first-route-reads
 use Rattle.table_change.proofs.refilling.or_route.Reads as or-route-reads
 use Rattle.table_change.proofs.refilling.+best_child.{statement}

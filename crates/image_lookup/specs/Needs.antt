@@ -4,11 +4,7 @@ use mathlib.Core.Bool.{true}
 use mathlib.Core.List.{List}
 use Prim.Native.Nat.{ℕ, _^_, _≤_, _<_}
 use Rattle.image_rules.specs.Node.{nodeCount}
-use Rattle.image_rules.specs.Lookup.{Looked, isStride}
-use Rattle.image_lookup.specs.declared.Found.{Found}
-
-abbrev pub foundOf : Looked → Found
-foundOf x = record { number = x .number; port = x .port; reads = x .reads }
+use Rattle.image_rules.specs.Lookup.{isStride}
 
 -- s is a stride, with the bounds that its walk wants
 pub record Stride (s : ℕ) : Type 0 where

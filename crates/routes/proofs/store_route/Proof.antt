@@ -1,8 +1,10 @@
+use borrow.Author.Tests.{lt-ltb, le-ltb}
 use native.Mathlib.Omega.{arith}
 use lib.ListN.{length-set}
+use Rattle.routes.specs.Routes.{routeCount, storeRoute}
 use borrow.Author.Needs.{needs}
-use Rattle.table_save.proofs.put_route.Statement.{statement}
-use Rattle.table_save.proofs.put_route.Tie as tie
+use Rattle.routes.proofs.store_route.Statement.{statement}
+use Rattle.routes.proofs.store_route.Tie as tie
 
 mul-at : tie.Need-mul-at
 mul-at c = search needs
@@ -29,16 +31,21 @@ mul-list-3 : tie.Need-mul-list-3
 mul-list-3 c = search needs
 
 slice-write-list-3 : tie.Need-slice-write-list-3
-slice-write-list-3 c = search needs
+slice-write-list-3 c = simp length-set (omega arith)
 
 same-length : tie.Need-same-length
 same-length c = search needs
 
 returns : tie.Need-returns
-returns c = search needs
+unfolding storeRoute
+returns c = let d = c .before .args in rw (lt-ltb (d .i) (routeCount (d .list .now)) (omega arith))
 
-pub put-route-spec : {M : Type 1} → statement M
-put-route-spec =
+returns-2 : tie.Need-returns-2
+unfolding storeRoute
+returns-2 c = let d = c .before .args in rw (le-ltb (d .i) (routeCount (d .list .now)) (omega arith))
+
+pub store-route-spec : {M : Type 1} → statement M
+store-route-spec =
     tie.close
     (tie.spec
     mul-at
@@ -51,4 +58,5 @@ put-route-spec =
     mul-list-3
     slice-write-list-3
     same-length
-    returns)
+    returns
+    returns-2)

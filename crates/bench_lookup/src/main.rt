@@ -1,4 +1,4 @@
-// Bench examples 1 to 7 of the rules on source document 004's Table I, run; that table damaged in each way that is refused; and
+// RULES, "Examples", 1 to 7, run; their table damaged in each way that is refused; and
 // that table saved as a list. A line is `claim`, the lookup's number, port and rows read, and the number that the check answers.
 use libc::STDOUT_FILENO;
 use routes::route_at;

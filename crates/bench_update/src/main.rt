@@ -1,4 +1,4 @@
-// Bench example 8 of the rules, run: source document 004's Table I, built and then changed, with every row shown; the calls that
+// RULES, "Examples", 8, run: its table, built and then changed, with every row shown; the calls that
 // are refused; a longer route below a shorter one that comes and goes; and one that the place of a withdrawn one is filled with.
 use libc::STDOUT_FILENO;
 use routes::Answer;

@@ -1,4 +1,4 @@
--- Defines the ones and zeros before a slot of a bitmap of n slots: rules, "The image", "Lookup at node a, slot j". Assumes nothing.
+-- Defines the ones and zeros before a slot of a bitmap of n slots: RULES, "Lookup in an image". Assumes nothing.
 use Prim.Native.Nat.{ℕ, _-_, _/_, _%_, _^_}
 use lib.Count.{ones}
 

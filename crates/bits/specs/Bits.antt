@@ -1,4 +1,4 @@
--- Defines bit strings and the bits of a number: rules, "Addresses, prefixes, the plain scan". Assumes nothing.
+-- Defines bit strings and the bits of a number: RULES, "Addresses and prefixes". Assumes nothing.
 use mathlib.Core.Bool.{Bool, true, false, Bool·beq, _&&_}
 use mathlib.Core.List.{List, [], _∷_}
 use Prim.Native.Nat.{ℕ, zero, suc, _+_, _*_, _/_, _%_, _^_}

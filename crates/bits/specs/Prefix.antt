@@ -1,6 +1,6 @@
--- Defines prefixes of w-bit addresses: rules, "Addresses, prefixes, the plain scan". A prefix is its value v and its length l.
--- Every definition is total: a length past the width counts as the width, and bits past the length count for nothing.
--- Assumes nothing.
+-- Defines prefixes of w-bit addresses: RULES, "Addresses and prefixes". A prefix is its value v and its length l. Every definition is
+-- total. To span, head, match, ends and halves a length past the width counts as the width, and bits past the length count for
+-- nothing; `clear` asks whether there are such bits, and the orders compare values and lengths as they are. Assumes nothing.
 use mathlib.Core.Path.{_≡_}
 use mathlib.Core.Bool.{Bool, _&&_, _||_}
 use Prim.Native.Nat.{ℕ, _+_, _-_, _*_, _/_, _%_, _^_, _<_, _≤_}

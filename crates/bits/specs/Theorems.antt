@@ -1,4 +1,4 @@
--- States what this layer is there for: rules, "Addresses, prefixes, the plain scan". Proofs are in proofs/. Assumes nothing.
+-- States what this layer is there for: RULES, "Addresses and prefixes". Proofs are in proofs/. Assumes nothing.
 use mathlib.Core.Path.{_≡_}
 use mathlib.Core.Bool.{Bool, true, false, _||_}
 use mathlib.Core.Logic.{_⊎_}

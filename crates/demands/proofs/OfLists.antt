@@ -9,13 +9,13 @@ use lib.ListN.{length}
 use borrow.Author.Tests.{ne-eqb}
 use Rattle.promise.specs.Over.{Outcome, outcome, over}
 use Rattle.routes.specs.Refusals.{noRoom, tooManyRuns, refused, accepted}
-use Rattle.routes.specs.Routes.{routeAt, routeCount, routeWords}
+use Rattle.routes.specs.Routes.{routeAt, routeCount, routeWords, listOfRoutes}
 use Rattle.routes.specs.Check.{listCheck}
 use Rattle.routes.specs.Scan.{scanOf, listScan}
 use Rattle.routes.specs.declared.Answer.{Answer}
 use Rattle.file_rules.specs.File.{fileRoute, fileOf}
-use Rattle.file_rules.specs.Calls.{checkedThen, listOfRoutes, readFile, writeFile}
-use Rattle.file_rules.proofs.InOrder.{length-in-order}
+use Rattle.file_rules.specs.Calls.{checkedThen, readFile, writeFile}
+use Rattle.lists.proofs.InOrder.{length-in-order}
 use Rattle.runs_rules.specs.Runs.{Run, runWords}
 use Rattle.runs_rules.specs.Listing.{listed, mostRuns, writeRuns, listRuns}
 use Rattle.demands.specs.Lamp.{shows, done}

@@ -1,4 +1,4 @@
--- Defines the checks of every call, in the order of the rules: "Numbers on the refusal lamp" and "Order". Assumes nothing.
+-- Defines the checks of every call, in their order: RULES, "Refusals" and "Order of the checks". Assumes nothing.
 use mathlib.Core.Path.{_≡_}
 use mathlib.Core.Logic.{_⊎_}
 use mathlib.Core.Bool.{true, false}

@@ -1,4 +1,4 @@
--- Defines the starred bench examples as one table: rules, "Bench examples (a star marks those also proved)". Assumes nothing.
+-- Defines the starred bench examples as one table: RULES, "Examples". Assumes nothing.
 use mathlib.Core.Path.{_≡_}
 use mathlib.Core.List.{List, [], _∷_, _++_}
 use Prim.Native.Nat.{ℕ, _-_, _*_, _^_, _+_}

@@ -1,4 +1,4 @@
--- States that no function which meets its promise is one of the five impostors: rules, "Five impostors are to be tried". Assumes
+-- States that no function which meets its promise is one of the five impostors: RULES, "Promises". Assumes
 -- nothing.
 use mathlib.Core.Path.{_≡_}
 use mathlib.Core.List.{List, [], _∷_, _++_}

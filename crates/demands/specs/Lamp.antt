@@ -1,5 +1,5 @@
 -- Defines "exactly in the listed case": the checks of a call one after the other, each with the number and the place that a refusal
--- shows where it fails. Rules, "Numbers on the refusal lamp" and "Order". Assumes nothing.
+-- shows where it fails. RULES, "Refusals" and "Order of the checks". Assumes nothing.
 use mathlib.Core.Path.{_≡_}
 use mathlib.Core.Logic.{_⊎_}
 use Prim.Native.Nat.{ℕ}

@@ -6,17 +6,16 @@ use native.Mathlib.Omega.{arith}
 use lib.ListN.{length, length-set}
 use Rattle.promise.specs.Over.{over, storeThree}
 use Rattle.promise.proofs.Over.{over-three}
-use Rattle.routes.specs.Routes.{routeWords, storeRoute}
+use Rattle.routes.specs.Routes.{routeWords, storeRoute, listOfRoutes}
 use Rattle.routes.specs.declared.Route.{Route}
-use Rattle.file_rules.specs.File.{prefixBytes, lenAt, readAt, placeOf, fileRoute, inOrder}
+use Rattle.file_rules.specs.File.{lenAt, readAt, placeOf, fileRoute, sizeFor}
+use Rattle.lists.specs.Numbered.{inOrder}
 use Rattle.file_rules.specs.Check.{Entire}
-use Rattle.file_rules.specs.Calls.{listOfRoutes}
 use Rattle.file_rules.specs.declared.Spared.{Spared}
-use Rattle.file_rules.proofs.InOrder.{in-order-more}
+use Rattle.lists.proofs.InOrder.{in-order-more}
 use Rattle.file_rules.proofs.Sound.{place-more, fault-none}
-use Rattle.file_rules.proofs.Words.{length-list}
 use Rattle.file_read.specs.Needs.{FitsList}
-use Rattle.routes.proofs.Words.{store-whole}
+use Rattle.routes.proofs.Words.{store-whole, length-list}
 
 -- i of n routes are written, and the next one is at an offset
 pub record Filled (w : ℕ) (file list₀ : List ℕ) (n : ℕ) (list : List ℕ) (at i : ℕ) : Type 0 where
@@ -34,19 +33,19 @@ module _ (w : ℕ) (file list₀ : List ℕ) (n : ℕ) (fits : FitsList w file l
   filled-entire h = rw (so .at-place) (fault-none w file i (fits .whole .none i h) .entire)
 
   -- the next offset lies in the file, or at its end
-  pub filled-next : i < n → (x : Spared) (k : ℕ) → x ≡ readAt w file at → k ≡ prefixBytes (x .route .len) → at + (k + 3) ≤ length file
+  pub filled-next : i < n → (x : Spared) (k : ℕ) → x ≡ readAt w file at → k ≡ sizeFor (x .route .len) → at + k ≤ length file
   unfolding readAt
   filled-next h x k x-is k-is =
-      let e : k ≡ prefixBytes (lenAt file at) = k-is ∙ ap (λ (y : Spared). prefixBytes (y .route .len)) x-is in
+      let e : k ≡ sizeFor (lenAt file at) = k-is ∙ ap (λ (y : Spared). sizeFor (y .route .len)) x-is in
       omega (arith, filled-entire h .uncut, e)
 
   pub filled-more : i < n → (x : Spared) (list′ : List ℕ) (k : ℕ) → x ≡ readAt w file at
-      → list′ ≡ storeRoute list i (x .route) → k ≡ prefixBytes (x .route .len)
-      → Filled w file list₀ n list′ (at + (k + 3)) (i + 1)
+      → list′ ≡ storeRoute list i (x .route) → k ≡ sizeFor (x .route .len)
+      → Filled w file list₀ n list′ (at + k) (i + 1)
   unfolding readAt
   filled-more h x list′ k x-is list-is k-is = record {
     passed = omega arith;
-    at-place = ap₂ (λ (p q : ℕ). p + (q + 3)) (so .at-place) (k-is ∙ ap (λ (r : Route). prefixBytes (r .len)) route-is) ∙ sym (place-more file i);
+    at-place = ap₂ (λ (p q : ℕ). p + q) (so .at-place) (k-is ∙ ap (λ (r : Route). sizeFor (r .len)) route-is) ∙ sym (place-more file i);
     same = ap length stored ∙ simp length-set (so .same);
     written =
         stored ∙ ap (λ (l : List ℕ). storeThree l (i * 3) (x .route .value) (x .route .len) (x .route .port)) (so .written)

@@ -5,7 +5,7 @@ use Prim.Native.Nat.{ℕ, _+_, _-_, _≤_, _<_}
 use lib.ListN.{length, getD}
 use borrow.Author.Tests.{lt-ltb, le-ltb, le-leb, lt-leb, eq-eqb, ne-eqb}
 use Rattle.routes.specs.Refusals.{shortFile, wrongVersion, wrongSize, longPrefix, tooManyRoutes, mostRoutes}
-use Rattle.file_rules.specs.File.{version, headSize, statedSize, prefixBytes, sizeFor, lenAt}
+use Rattle.file_rules.specs.File.{version, headSize, statedSize, sizeFor, lenAt}
 use Rattle.file_rules.specs.Check.{headFault, frameFault}
 
 -- 8, 4, 3 (cut): each after those before it passed
@@ -17,15 +17,15 @@ module _ (w : ℕ) (file : List ℕ) (i at : ℕ) where
     pub frame-long : w < len → longPrefix ≡ frameFault w file i at 0
     frame-long h = simp (lt-ltb i mostRoutes few, lt-leb (lenAt file at) w (rw len-is at h))
 
-    module _ (short : len ≤ w) (k : ℕ) (k-is : k ≡ prefixBytes len) where
-      size-is : k + 3 ≡ sizeFor (lenAt file at)
-      size-is = ap (λ (x : ℕ). x + 3) (k-is ∙ ap prefixBytes len-is)
+    module _ (short : len ≤ w) (k : ℕ) (k-is : k ≡ sizeFor len) where
+      size-is : k ≡ sizeFor (lenAt file at)
+      size-is = k-is ∙ ap (λ (l : ℕ). sizeFor l) len-is
 
-      pub frame-cut : length file < at + (k + 3) → wrongSize ≡ frameFault w file i at 0
+      pub frame-cut : length file < at + k → wrongSize ≡ frameFault w file i at 0
       frame-cut h =
           simp (lt-ltb i mostRoutes few, le-leb (lenAt file at) w (rw len-is at short), lt-leb (at + sizeFor (lenAt file at)) (length file) (rw size-is at h))
 
-      pub frame-entire : at + (k + 3) ≤ length file → 0 ≡ frameFault w file i at 0
+      pub frame-entire : at + k ≤ length file → 0 ≡ frameFault w file i at 0
       frame-entire h =
           simp (lt-ltb i mostRoutes few, le-leb (lenAt file at) w (rw len-is at short), le-leb (at + sizeFor (lenAt file at)) (length file) (rw size-is at h))
 

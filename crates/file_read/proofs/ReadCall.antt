@@ -9,9 +9,10 @@ use Rattle.routes.specs.Refusals.{noRoom, refused}
 use Rattle.routes.specs.declared.Answer.{Answer}
 use Rattle.file_rules.specs.File.{fileRoute}
 use Rattle.file_rules.specs.Check.{fileCheck, Whole}
-use Rattle.file_rules.specs.Calls.{listOfRoutes, readFile}
+use Rattle.file_rules.specs.Calls.{readFile}
+use Rattle.routes.specs.Routes.{listOfRoutes}
 use Rattle.file_rules.proofs.Walk.{accepted-whole, check-whole}
-use Rattle.file_rules.proofs.Words.{length-list}
+use Rattle.routes.proofs.Words.{length-list}
 use Rattle.file_rules.proofs.Trips.{checked-refused, checked-short, read-whole}
 use Rattle.file_read.specs.Needs.{FitsList}
 

@@ -10,13 +10,15 @@ use Rattle.routes.specs.Refusals.{refused}
 use Rattle.routes.specs.Routes.{route}
 use Rattle.routes.specs.declared.Answer.{Answer}
 use Rattle.routes.proofs.Faults.{chain-fault, chain-rest}
-use Rattle.file_rules.specs.File.{prefixBytes, lenAt, valueFrom, portFrom, spare, readAt}
+use Rattle.file_rules.specs.File.{prefixBytes, lenAt, valueFrom, portFrom, spare, readAt, sizeFor}
 use Rattle.file_rules.specs.Check.{frameFault, contentFault, Entire}
 use Rattle.file_read.specs.Step.{faultAfter, cursorAfter, stepAt}
 use Rattle.file_read.specs.declared.step.Cursor.{Cursor}
 use Rattle.file_rules.specs.declared.Spared.{Spared}
 use Rattle.file_read.specs.declared.step.Step.the-variants.{Took, Refused}
 use Rattle.file_rules.proofs.Sound.{frame-fault-rest, frame-none}
+use Rattle.prefix.specs.Prefixes.{prefix}
+use Rattle.prefix.specs.declared.Prefix.{Prefix}
 
 pub read-is : (w : ℕ) (file : List ℕ) (at len k value port : ℕ) (x : Spared)
     → len ≡ lenAt file at → k ≡ prefixBytes len → value ≡ valueFrom w file (at + 1) len → port ≡ portFrom file (at + 1 + k)
@@ -42,22 +44,22 @@ module _ (w : ℕ) (file : List ℕ) (c : Cursor) (frame : ℕ) (frame-is : fram
     step-entire = frame-none w file (c .count) (c .at) 0 (sym frame-is ∙ framed) .1
 
     module _ (x : Spared) (x-is : x ≡ readAt w file (c .at)) (rises : Bool)
-        (rises-is : rises ≡ (eqb (c .count) 0 || precedes (c .value) (c .len) (x .route .value) (x .route .len)))
+        (rises-is : rises ≡ (eqb (c .count) 0 || precedes (c .past .value) (c .past .len) (x .route .value) (x .route .len)))
         (fault : ℕ) (fault-is : fault ≡ contentFault x rises) where
       fault-after : faultAfter w file c ≡ fault
       unfolding faultAfter
       fault-after =
           chain-rest (frameFault w file (c .count) (c .at)) (frame-fault-rest w file (c .count) (c .at)) frame frame-is _ framed
           ∙ sym (fault-is ∙ ap (contentFault x) rises-is
-          ∙ ap (λ (y : Spared). contentFault y (eqb (c .count) 0 || precedes (c .value) (c .len) (y .route .value) (y .route .len))) x-is)
+          ∙ ap (λ (y : Spared). contentFault y (eqb (c .count) 0 || precedes (c .past .value) (c .past .len) (y .route .value) (y .route .len))) x-is)
 
       -- 5, 6, 7
       pub step-faulty : (a : Answer) → (fault ≡ 0 → ⊥) → a ≡ refused fault (c .at) → Refused a ≡ stepAt w file c
       step-faulty a n = refused-step fault a fault-after n
 
-      pub step-took : fault ≡ 0 → (k : ℕ) → k ≡ prefixBytes (x .route .len)
-          → Took (x .route) (record { at = c .at + (k + 3); count = c .count + 1; value = x .route .value; len = x .route .len }) ≡ stepAt w file c
+      pub step-took : fault ≡ 0 → (k : ℕ) → k ≡ sizeFor (x .route .len) → (p : Prefix) → p ≡ prefix (x .route .value) (x .route .len)
+          → Took (record { at = c .at + k; count = c .count + 1; past = p }) ≡ stepAt w file c
       unfolding stepAt
-      step-took z k k-is =
-          ap (λ (j : ℕ). Took (x .route) (record { at = c .at + (j + 3); count = c .count + 1; value = x .route .value; len = x .route .len })) k-is
-          ∙ sym (rw (fault-after ∙ z) (ap (λ (y : Spared). Took (y .route) (cursorAfter c (y .route))) (sym x-is)))
+      step-took z k k-is p p-is =
+          ap₂ (λ (j : ℕ) (q : Prefix). Took (record { at = c .at + j; count = c .count + 1; past = q })) k-is p-is
+          ∙ sym (rw (fault-after ∙ z) (ap (λ (y : Spared). Took (cursorAfter c (y .route))) (sym x-is)))

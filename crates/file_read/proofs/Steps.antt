@@ -13,7 +13,6 @@ use Rattle.bits.specs.Prefix.{precedes}
 use Rattle.lists.proofs.Tests.{way}
 use Rattle.routes.specs.Refusals.{mostRoutes, refused, accepted}
 use Rattle.routes.specs.declared.Answer.{Answer}
-use Rattle.routes.specs.declared.Route.{Route}
 use Rattle.routes.proofs.First.{NoneBelow}
 use Rattle.file_rules.specs.File.{headSize, sizeFor, lenAt, readAt, placeOf, fileRoute}
 use Rattle.file_rules.specs.Check.{frameFault, contentFault, fileFault, headFault, fileCheck}
@@ -22,6 +21,7 @@ use Rattle.file_read.specs.declared.step.Cursor.{Cursor}
 use Rattle.file_read.specs.declared.step.Step.the-variants.{Took, Refused}
 use Rattle.file_rules.proofs.Sound.{place-more, place-le, fault-none}
 use Rattle.file_rules.proofs.Walk.{check-headed, check-from, check-here, check-end}
+use Rattle.prefix.specs.Prefixes.{prefix}
 
 -- after (count) routes without a fault the cursor stands at the next one, and knows the prefix before it
 pub record Reached (w : ℕ) (file : List ℕ) (c : Cursor) : Type 0 where
@@ -29,10 +29,10 @@ pub record Reached (w : ℕ) (file : List ℕ) (c : Cursor) : Type 0 where
   pub few : c .count ≤ mostRoutes
   pub none : NoneBelow (fileFault w file) (c .count)
   pub known : (v l : ℕ)
-      → (eqb (c .count) 0 || precedes (c .value) (c .len) v l)
+      → (eqb (c .count) 0 || precedes (c .past .value) (c .past .len) v l)
       ≡ (eqb (c .count) 0 || precedes (fileRoute w file (c .count - 1) .value) (fileRoute w file (c .count - 1) .len) v l)
 
-pub reached-none : (w : ℕ) (file : List ℕ) → Reached w file (record { at = headSize; count = 0; value = 0; len = 0 })
+pub reached-none : (w : ℕ) (file : List ℕ) → Reached w file (record { at = headSize; count = 0; past = prefix 0 0 })
 unfolding placeOf
 reached-none w file =
     record { at-place = refl; few = omega arith; none = below-none (λ j. fileFault w file j ≡ 0); known = λ v l. refl }
@@ -49,24 +49,21 @@ module _ (w : ℕ) (file : List ℕ) (c : Cursor) (here : Reached w file c) wher
       (here .known (fileRoute w file (c .count) .value) (fileRoute w file (c .count) .len)))
 
   -- a route is taken exactly where it has no fault
-  took-sound : (r : Route) (next : Cursor) → stepAt w file c ≡ Took r next
-      → (fileFault w file (c .count) ≡ 0) × (r ≡ fileRoute w file (c .count)) × (next ≡ cursorAfter c r)
+  took-sound : (next : Cursor) → stepAt w file c ≡ Took next
+      → (fileFault w file (c .count) ≡ 0) × (next ≡ cursorAfter c (fileRoute w file (c .count)))
   unfolding stepAt
-  took-sound r next = go (way (eqb (faultAfter w file c) 0))
+  took-sound next = go (way (eqb (faultAfter w file c) 0))
     where
       go : (eqb (faultAfter w file c) 0 ≡ true) ⊎ (eqb (faultAfter w file c) 0 ≡ false)
-          → cond (eqb (faultAfter w file c) 0) (Took (readAt w file (c .at) .route) (cursorAfter c (readAt w file (c .at) .route))) (Refused (refused (faultAfter w file c) (c .at)))
-          ≡ Took r next
-          → (fileFault w file (c .count) ≡ 0) × (r ≡ fileRoute w file (c .count)) × (next ≡ cursorAfter c r)
+          → cond (eqb (faultAfter w file c) 0) (Took (cursorAfter c (readAt w file (c .at) .route))) (Refused (refused (faultAfter w file c) (c .at)))
+          ≡ Took next
+          → (fileFault w file (c .count) ≡ 0) × (next ≡ cursorAfter c (fileRoute w file (c .count)))
       go (inl t) e =
-          let s : Took (readAt w file (c .at) .route) (cursorAfter c (readAt w file (c .at) .route)) ≡ Took r next = rw t at e in
-          let same : r ≡ readAt w file (c .at) .route = cc in (
-            sym fault-here ∙ eqb-true (faultAfter w file c) 0 t,
-            same ∙ ap (λ (p : ℕ). readAt w file p .route) (here .at-place),
-            (let n : next ≡ cursorAfter c (readAt w file (c .at) .route) = cc in n ∙ ap (cursorAfter c) (sym same)),
-          )
+          let s : Took (cursorAfter c (readAt w file (c .at) .route)) ≡ Took next = rw t at e in
+          let n : next ≡ cursorAfter c (readAt w file (c .at) .route) = cc in
+          (sym fault-here ∙ eqb-true (faultAfter w file c) 0 t, n ∙ ap (λ (p : ℕ). cursorAfter c (readAt w file p .route)) (here .at-place))
       go (inr t) e =
-          let s : Refused (refused (faultAfter w file c) (c .at)) ≡ Took r next = rw t at e in
+          let s : Refused (refused (faultAfter w file c) (c .at)) ≡ Took next = rw t at e in
           let z : _≡_ {A = ℕ} 0 1 = cc in
           absurd (omega arith)
 
@@ -76,11 +73,11 @@ module _ (w : ℕ) (file : List ℕ) (c : Cursor) (here : Reached w file c) wher
   refused-fault a = go (way (eqb (faultAfter w file c) 0))
     where
       go : (eqb (faultAfter w file c) 0 ≡ true) ⊎ (eqb (faultAfter w file c) 0 ≡ false)
-          → cond (eqb (faultAfter w file c) 0) (Took (readAt w file (c .at) .route) (cursorAfter c (readAt w file (c .at) .route))) (Refused (refused (faultAfter w file c) (c .at)))
+          → cond (eqb (faultAfter w file c) 0) (Took (cursorAfter c (readAt w file (c .at) .route))) (Refused (refused (faultAfter w file c) (c .at)))
           ≡ Refused a
           → (a ≡ refused (fileFault w file (c .count)) (placeOf file (c .count))) × (fileFault w file (c .count) ≡ 0 → ⊥)
       go (inl t) e =
-          let s : Took (readAt w file (c .at) .route) (cursorAfter c (readAt w file (c .at) .route)) ≡ Refused a = rw t at e in
+          let s : Took (cursorAfter c (readAt w file (c .at) .route)) ≡ Refused a = rw t at e in
           let z : _≡_ {A = ℕ} 0 1 = cc in
           absurd (omega arith)
       go (inr t) e =
@@ -89,24 +86,19 @@ module _ (w : ℕ) (file : List ℕ) (c : Cursor) (here : Reached w file c) wher
           (same ∙ ap₂ refused fault-here (here .at-place), λ z. eqb-false (faultAfter w file c) 0 t (fault-here ∙ z))
 
   -- the cursor after a route that is taken
-  pub reached-more : (r : Route) (next : Cursor) → stepAt w file c ≡ Took r next → Reached w file next × (c .at < next .at)
+  pub reached-more : (next : Cursor) → stepAt w file c ≡ Took next → Reached w file next × (c .at < next .at)
   unfolding readAt
-  reached-more r next e = (rw (t .2) reached, rw (t .2) (omega arith))
+  reached-more next e = (rw (t .1) reached, rw (t .1) (omega arith))
     where
-      t : (fileFault w file (c .count) ≡ 0) × (r ≡ fileRoute w file (c .count)) × (next ≡ cursorAfter c r)
-      t = took-sound r next e
+      t : (fileFault w file (c .count) ≡ 0) × (next ≡ cursorAfter c (fileRoute w file (c .count)))
+      t = took-sound next e
 
-      len-is : r .len ≡ lenAt file (placeOf file (c .count))
-      len-is = ap (λ (x : Route). x .len) (t .1)
-
-      reached : Reached w file (cursorAfter c r)
+      reached : Reached w file (cursorAfter c (fileRoute w file (c .count)))
       reached = record {
-        at-place = ap₂ (λ (p l : ℕ). p + sizeFor l) (here .at-place) len-is ∙ sym (place-more file (c .count));
+        at-place = ap (λ (p : ℕ). p + sizeFor (lenAt file (placeOf file (c .count)))) (here .at-place) ∙ sym (place-more file (c .count));
         few = omega (arith, fault-none w file (c .count) (t .0) .few);
         none = below-more (λ j. fileFault w file j ≡ 0) (c .count) (here .none) (t .0);
-        known = λ v l.
-            let p : c .count + 1 - 1 ≡ c .count = omega arith in
-            rw (p, t .1);
+        known = λ v l. let p : c .count + 1 - 1 ≡ c .count = omega arith in rw p;
       }
 
   pub reached-refused : (a : Answer) → headFault file ≡ 0 → c .at < length file → stepAt w file c ≡ Refused a → a ≡ fileCheck w file

@@ -5,11 +5,13 @@ ghost use lib.ListN.{length};
 ghost use Rattle.promise.specs.Over.{over, outcome};
 ghost use Rattle.file_rules.specs.File.{fileRoute};
 ghost use Rattle.file_rules.specs.Check.{headFault, fileCheck};
-ghost use Rattle.file_rules.specs.Calls.{listOfRoutes, readFile};
+ghost use Rattle.file_rules.specs.Calls.{readFile};
+ghost use Rattle.routes.specs.Routes.{listOfRoutes};
 ghost use Rattle.file_read.specs.Needs.{FitsList};
 use file_rules::HEAD_SIZE;
 use file_rules::VERSION;
-use file_rules::prefix_bytes;
+use file_rules::route_size;
+use prefix::Prefix;
 use routes::Answer;
 use routes::ROUTE_SIZE;
 use routes::refusal::NO_ROOM;
@@ -51,13 +53,12 @@ fn check_file(file: &[u8]) -> Answer
     let mut c = Cursor {
         at: HEAD_SIZE,
         count: 0,
-        value: 0,
-        len: 0,
+        past: Prefix::WHOLE,
     };
     while c.at < file.len() {
         let step = step_at(file, c);
         match step {
-            Step::Took(_, next) => {
+            Step::Took(next) => {
                 c = next;
             }
             Step::Refused(answer) => {
@@ -79,7 +80,7 @@ fn fill_list(file: &[u8], list: &mut [u32], n: usize)
         let x = read_at(file, at);
         let r = x.route;
         store_route(list, i, r);
-        at += prefix_bytes(r.len) + 3;
+        at += route_size(r.len);
         i += 1;
     }
 }

@@ -1,4 +1,4 @@
-// One step of the reader at a cursor: the route with the cursor after it, or the refusal with its place.
+// One step of the reader at a cursor: the cursor after the route, or the refusal with its place.
 ghost use mathlib.Core.Path.{_≡_};
 ghost use mathlib.Core.Bool.{_||_};
 ghost use Prim.Native.Nat.{_+_, _≤_, _<_};
@@ -11,6 +11,7 @@ ghost use Rattle.file_read.specs.Step.{stepAt};
 ghost use Rattle.file_read.specs.Needs.{ByteIs, NumberAt, Standing};
 use file_rules::Spared;
 use file_rules::prefix_bytes;
+use file_rules::route_size;
 use prefix::Prefix;
 use routes::Answer;
 use routes::Route;
@@ -27,13 +28,12 @@ use routes::refusal::WRONG_SIZE;
 pub struct Cursor {
     pub at: usize,
     pub count: usize,
-    pub value: u32,
-    pub len: u32,
+    pub past: Prefix,
 }
 
-// What a step of the reader answers: the route with the cursor after it, or the refusal with its place.
+// What a step of the reader answers: the cursor after the route, or the refusal with its place.
 pub enum Step {
-    Took(Route, Cursor),
+    Took(Cursor),
     Refused(Answer),
 }
 
@@ -116,7 +116,7 @@ fn frame_fault(file: &[u8], i: usize, at: usize) -> u32
     if 32 < len {
         return LONG_PREFIX;
     }
-    if file.len() < at + (prefix_bytes(len) + 3) {
+    if file.len() < at + route_size(len) {
         WRONG_SIZE
     } else {
         0
@@ -141,9 +141,10 @@ fn content_fault(x: Spared, rises: bool) -> u32
 
 // Whether a route is above the one before the cursor; the first is.
 fn rises_after(c: Cursor, r: Route) -> bool
-    ensures { λ b. ⌜ b ≡ (eqb (c .count) 0 || precedes (c .value) (c .len) (r .value) (r .len)) ⌝ }
+    ensures { λ b. ⌜ b ≡ (eqb (c .count) 0 || precedes (c .past .value) (c .past .len) (r .value) (r .len)) ⌝ }
 {
-    (c.count == 0) | Prefix::new(c.value, c.len).precedes(Prefix::new(r.value, r.len))
+    let past = c.past;
+    (c.count == 0) | past.precedes(r.prefix())
 }
 
 // The route at the cursor and the cursor after it, or its first fault at the offset of its first byte.
@@ -162,13 +163,9 @@ pub(crate) fn step_at(file: &[u8], c: Cursor) -> Step
     if fault != 0 {
         return Step::Refused(Answer::refused(fault, at as u32));
     }
-    Step::Took(
-        r,
-        Cursor {
-            at: at + (prefix_bytes(r.len) + 3),
-            count: c.count + 1,
-            value: r.value,
-            len: r.len,
-        },
-    )
+    Step::Took(Cursor {
+        at: at + route_size(r.len),
+        count: c.count + 1,
+        past: r.prefix(),
+    })
 }

@@ -1,6 +1,5 @@
 -- Laws of the route file.
 pub mod Bytes
-pub mod InOrder
 pub mod Sound
 pub mod Walk
 pub mod Words

@@ -1,5 +1,4 @@
--- The two round trips, the empty list, and that a refusal writes nothing: rules, "Reading a written file returns the same routes;
--- writing what was read returns the same bytes". Assumes nothing.
+-- The two round trips, the empty list, and that a refusal writes nothing: RULES, "Demands" and "The route file". Assumes nothing.
 use mathlib.Core.Path.{_≡_, refl, sym, ap, _∙_}
 use mathlib.Core.Logic.{_⊎_, inl, inr}
 use mathlib.Core.Bool.{true, false}
@@ -13,21 +12,23 @@ use borrow.Author.Tests.{eq-eqb, ne-eqb, eqb-true, eqb-false, le-leb, lt-leb, le
 use Rattle.lists.proofs.Tests.{way}
 use Rattle.promise.specs.Over.{over, Outcome, outcome}
 use Rattle.routes.specs.Refusals.{noRoom, refused, accepted}
-use Rattle.routes.specs.Routes.{routeAt, routeCount, ValidList}
+use Rattle.routes.specs.Routes.{routeAt, routeCount, ValidList, listOfRoutes}
 use Rattle.routes.specs.Check.{listCheck, routesCheck, firstFault}
 use Rattle.routes.specs.declared.Answer.{Answer}
 use Rattle.routes.specs.declared.Route.{Route}
 use Rattle.routes.proofs.Check.{accepted-sized, accepted-valid, check-done}
 use Rattle.file_rules.specs.Bytes.{number, digits}
-use Rattle.file_rules.specs.File.{fileRoute, inOrder, headOf, fileOf}
+use Rattle.file_rules.specs.File.{fileRoute, headOf, fileOf}
+use Rattle.lists.specs.Numbered.{inOrder}
 use Rattle.file_rules.specs.Check.{headFault, checkFrom, fileCheck, Whole}
-use Rattle.file_rules.specs.Calls.{checkedThen, listOfRoutes, readFile, writeFile}
+use Rattle.file_rules.specs.Calls.{checkedThen, readFile, writeFile}
 use Rattle.file_rules.specs.Theorems.{ReadWritten, WriteRead, EmptyFile, RefusalWritesNothing}
-use Rattle.file_rules.proofs.InOrder.{in-order-same}
+use Rattle.lists.proofs.InOrder.{in-order-same}
 use Rattle.file_rules.proofs.Walk.{check-whole, accepted-whole}
 use Rattle.file_rules.proofs.Whole.{file-valid, file-same}
 use Rattle.file_rules.proofs.WriteRead.{file-back}
-use Rattle.file_rules.proofs.Words.{length-list, count-list, route-in-list, list-same, words-list}
+use Rattle.file_rules.proofs.Words.{words-list}
+use Rattle.routes.proofs.Words.{length-list, count-list, route-in-list, list-same}
 
 -- the three answers of a call that checks and then writes
 module _ (checked : Answer) (out : List ℕ) (count : ℕ) (lent : List ℕ) where

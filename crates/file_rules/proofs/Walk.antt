@@ -1,5 +1,4 @@
--- The check of a file refuses exactly in the listed cases: rules, "File: 1, 2, 3 (size); per route 8, 4, 3 (cut), 5, 6, 7".
--- Assumes nothing.
+-- The check of a file refuses exactly in the listed cases: RULES, "Order of the checks". Assumes nothing.
 use mathlib.Core.Path.{_≡_, refl, sym, ap, _∙_}
 use mathlib.Core.Logic.{_⊎_, inl, inr, ⊎-elim}
 use mathlib.Core.Bool.{true, false}

@@ -15,7 +15,7 @@ use Rattle.file_rules.specs.File.{headSize, statedSize, prefixBytes, siz
 use Rattle.file_rules.specs.Check.{fileFault, Whole}
 use Rattle.file_rules.specs.Theorems.{FileValid, FileSame}
 use Rattle.file_rules.proofs.Bytes.{length-digits, number-lt, digits-number, bytes-drop, bytes-take}
-use Rattle.file_rules.proofs.InOrder.{in-order-taken}
+use Rattle.lists.proofs.InOrder.{in-order-taken}
 use Rattle.file_rules.proofs.Sound.{Sound, fault-none}
 
 -- bytes that stand in a file are those of the number they write

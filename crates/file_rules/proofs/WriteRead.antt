@@ -14,12 +14,13 @@ use Rattle.routes.specs.declared.Route.{Route}
 use Rattle.routes.proofs.Faults.{valid-faultless}
 use Rattle.routes.proofs.Check.{valid-above}
 use Rattle.file_rules.specs.Bytes.{number, digits}
-use Rattle.file_rules.specs.File.{headSize, prefixBytes, sizeFor, bitsAfter, lenAt, spare, readAt, placeOf, fileRoute, inOrder, routeBytes, bodyOf, headOf, fileOf, FileWidth}
+use Rattle.file_rules.specs.File.{headSize, prefixBytes, sizeFor, bitsAfter, lenAt, spare, readAt, placeOf, fileRoute, routeBytes, bodyOf, headOf, fileOf, FileWidth}
+use Rattle.lists.specs.Numbered.{inOrder}
 use Rattle.file_rules.specs.Check.{Headed, Whole}
 use Rattle.file_rules.specs.Theorems.{FileBack}
 use Rattle.file_rules.specs.declared.Spared.{Spared}
 use Rattle.file_rules.proofs.Bytes.{length-digits, number-digits}
-use Rattle.file_rules.proofs.InOrder.{length-in-order-le, in-order-split}
+use Rattle.lists.proofs.InOrder.{length-in-order-le, in-order-split}
 use Rattle.file_rules.proofs.Sound.{Sound, none-fault}
 use Rattle.file_rules.proofs.Whole.{length-head, length-route-bytes}
 

@@ -1,4 +1,4 @@
--- Defines numbers as bytes, "big-endian": rules, "The route file". Assumes nothing.
+-- Defines numbers as bytes, "big-endian": RULES, "The route file". Assumes nothing.
 use mathlib.Core.List.{List, [], _∷_}
 use Prim.Native.Nat.{ℕ, zero, suc, _+_, _*_, _/_, _%_, _^_, _<_}
 use lib.ListN.{length, getD}

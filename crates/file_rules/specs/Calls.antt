@@ -1,5 +1,5 @@
--- Defines what reading a file into a list and writing a list into a file answer and leave: rules, "The route file", "last 9", and
--- "Writers leave lent memory past their output unchanged". Assumes nothing.
+-- Defines what reading a file into a list and writing a list into a file answer and leave: RULES, "The route file", "Calls" and
+-- "Order of the checks". Assumes nothing.
 use mathlib.Core.Bool.{cond}
 use mathlib.Core.List.{List}
 use Prim.Native.Nat.{ℕ}
@@ -7,11 +7,10 @@ use lib.Dec.{eqb, leb}
 use lib.ListN.{length}
 use Rattle.promise.specs.Over.{over, Outcome, outcome}
 use Rattle.routes.specs.Refusals.{noRoom, refused, accepted}
-use Rattle.routes.specs.Routes.{routeAt, routeCount, routeWords}
+use Rattle.routes.specs.Routes.{routeAt, routeCount, listOfRoutes}
 use Rattle.routes.specs.Check.{listCheck}
 use Rattle.routes.specs.declared.Answer.{Answer}
-use Rattle.routes.specs.declared.Route.{Route}
-use Rattle.file_rules.specs.File.{fileRoute, inOrder, fileOf}
+use Rattle.file_rules.specs.File.{fileRoute, fileOf}
 use Rattle.file_rules.specs.Check.{fileCheck}
 
 -- the checks, "then 9", then the output. A refusal "writes no lent memory".
@@ -20,10 +19,6 @@ checkedThen checked out count lent =
     cond (eqb (checked .number) 0)
     (cond (leb (length out) (length lent)) (outcome (accepted count) (over out lent)) (outcome (refused noRoom 0) lent))
     (outcome checked lent)
-
--- the words of the first n routes
-abbrev pub listOfRoutes : (ℕ → Route) → ℕ → List ℕ
-listOfRoutes R n = inOrder routeWords R n
 
 -- reading: the routes' words, and how many routes
 unfoldable pub readFile : ℕ → List ℕ → List ℕ → Outcome Answer

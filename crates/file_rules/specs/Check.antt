@@ -1,4 +1,4 @@
--- Defines the checks of a route file: rules, "Order. File: 1, 2, 3 (size); per route 8, 4, 3 (cut), 5, 6, 7". Assumes nothing.
+-- Defines the checks of a route file: RULES, "Order of the checks". Assumes nothing.
 use mathlib.Core.Path.{_≡_}
 use mathlib.Core.Bool.{Bool, cond}
 use mathlib.Core.List.{List}

@@ -9,6 +9,7 @@ use Rattle.routes.specs.Routes.{route}
 use Rattle.routes.specs.declared.Route.{Route}
 use Rattle.file_rules.specs.Bytes.{number, digits}
 use Rattle.file_rules.specs.declared.Spared.{Spared}
+use Rattle.lists.specs.Numbered.{inOrder}
 
 -- "Byte 0 is the version, 1."
 abbrev pub version : ℕ
@@ -34,6 +35,11 @@ pub record BytesFor (len r : ℕ) : Type 0 where
 -- the bytes of a route: "one byte prefix length in bits, the fewest bytes that hold that many bits, two bytes port"
 abbrev pub sizeFor : ℕ → ℕ
 sizeFor len = prefixBytes len + 3
+
+-- r is how many bytes a route takes, with the bound that callers want
+pub record RouteBytes (len r : ℕ) : Type 0 where
+  pub is : r ≡ sizeFor len
+  pub small : r < 2 ^ 31
 
 -- the bits of an address that the bytes of a prefix leave out
 abbrev pub bitsAfter : ℕ → ℕ → ℕ
@@ -72,11 +78,6 @@ abbrev pub fileRoute : ℕ → List ℕ → ℕ → Route
 fileRoute w file i = readAt w file (placeOf file i) .route
 
 -- writing
-
--- what the first n routes give, one after the other
-unfoldable pub inOrder : (Route → List ℕ) → (ℕ → Route) → ℕ → List ℕ
-inOrder f R zero = []
-inOrder f R (suc i) = inOrder f R i ++ f (R i)
 
 -- "one byte prefix length in bits, the fewest bytes that hold that many bits, two bytes port, big-endian"
 abbrev pub routeBytes : ℕ → Route → List ℕ

@@ -1,4 +1,4 @@
--- States what this layer is there for: rules, "The route file", the refusals of a file, and the two round trips. Proofs are in
+-- States what this layer is there for: RULES, "The route file", the refusals of a file, and the two round trips. Proofs are in
 -- proofs/. Assumes nothing.
 use mathlib.Core.Path.{_≡_}
 use mathlib.Core.List.{List, [], _∷_}

@@ -14,8 +14,9 @@ use Rattle.routes.specs.declared.Route.{Route}
 use Rattle.routes.proofs.Faults.{fault-none}
 use Rattle.routes.proofs.First.{accepted-none}
 use Rattle.routes.proofs.Check.{accepted-sized, list-check-sized}
-use Rattle.file_rules.specs.File.{headSize, prefixBytes, sizeFor, inOrder, routeBytes, bodyOf}
-use Rattle.file_rules.proofs.InOrder.{in-order-more, length-in-order-more, length-in-order-mono, length-in-order-le}
+use Rattle.file_rules.specs.File.{headSize, sizeFor, routeBytes, bodyOf}
+use Rattle.lists.specs.Numbered.{inOrder}
+use Rattle.lists.proofs.InOrder.{in-order-more, length-in-order-more, length-in-order-mono, length-in-order-le}
 use Rattle.file_rules.proofs.Whole.{length-route-bytes}
 use Rattle.file_write.specs.Needs.{stored, BodySize, FitsFile}
 use Rattle.file_write.proofs.Store.{length-stored, stored-none, stored-stored}
@@ -37,10 +38,10 @@ module _ (w : ℕ) (list : List ℕ) (valid : listCheck w list .number ≡ 0) wh
       (λ j l. omega (arith, length-route-bytes w (routeAt list j), listed-short j (omega arith)))
 
 -- the size of one route more
-body-more : (w : ℕ) (R : ℕ → Route) (i k : ℕ) (r : Route) → r ≡ R i → k ≡ prefixBytes (r .len)
-    → length (bodyOf w R i) + (k + 3) ≡ length (bodyOf w R (i + 1))
+body-more : (w : ℕ) (R : ℕ → Route) (i k : ℕ) (r : Route) → r ≡ R i → k ≡ sizeFor (r .len)
+    → length (bodyOf w R i) + k ≡ length (bodyOf w R (i + 1))
 body-more w R i k r r-is k-is =
-    let e : k ≡ prefixBytes (R i .len) = k-is ∙ ap (λ (x : Route). prefixBytes (x .len)) r-is in
+    let e : k ≡ sizeFor (R i .len) = k-is ∙ ap (λ (x : Route). sizeFor (x .len)) r-is in
     omega (arith, length-in-order-more (routeBytes w) R i, length-route-bytes w (R i), e)
 
 -- the size of i routes is known
@@ -58,9 +59,9 @@ module _ (w : ℕ) (list : List ℕ) (valid : listCheck w list .number ≡ 0) (s
       let few : i ≤ mostRoutes = omega (arith, so .passed, listed-few w list valid) in
       omega (arith, so .is, body-le w list valid i (so .passed), mul-le-mul-right (sizeFor w) few)
 
-  pub summed-more : i < routeCount list → (k : ℕ) (r : Route) → r ≡ routeAt list i → k ≡ prefixBytes (r .len) → Summed w list (size + (k + 3)) (i + 1)
+  pub summed-more : i < routeCount list → (k : ℕ) (r : Route) → r ≡ routeAt list i → k ≡ sizeFor (r .len) → Summed w list (size + k) (i + 1)
   summed-more h k r r-is k-is =
-      record { passed = omega arith; is = ap (λ (n : ℕ). n + (k + 3)) (so .is) ∙ body-more w (routeAt list) i k r r-is k-is }
+      record { passed = omega arith; is = ap (λ (n : ℕ). n + k) (so .is) ∙ body-more w (routeAt list) i k r r-is k-is }
 
   pub summed-all : routeCount list ≤ i → BodySize w list size
   summed-all h =
@@ -80,16 +81,16 @@ bodied-none w list file = record { passed = omega arith; at-end = refl; same = r
 
 module _ (w : ℕ) (list file₀ : List ℕ) (fits : FitsFile w list file₀) (file : List ℕ) (at i : ℕ) (so : Bodied w list file₀ file at i) where
   -- the next route ends within the room
-  pub bodied-next : i < routeCount list → (k : ℕ) (r : Route) → r ≡ routeAt list i → k ≡ prefixBytes (r .len) → at + (k + 3) ≤ length file
+  pub bodied-next : i < routeCount list → (k : ℕ) (r : Route) → r ≡ routeAt list i → k ≡ sizeFor (r .len) → at + k ≤ length file
   bodied-next h k r r-is k-is =
       omega (arith, so .at-end, so .same, fits .room, body-more w (routeAt list) i k r r-is k-is, length-in-order-mono (routeBytes w) (routeAt list) (i + 1) (routeCount list) (omega arith))
 
   pub bodied-room : i < routeCount list → (r : Route) → r ≡ routeAt list i → (at + sizeFor (r .len) ≤ length file) × (r .len ≤ w)
   bodied-room h r r-is =
-      (bodied-next h (prefixBytes (r .len)) r r-is refl, rw r-is (listed-short w list (fits .valid) i h))
+      (bodied-next h (sizeFor (r .len)) r r-is refl, rw r-is (listed-short w list (fits .valid) i h))
 
-  pub bodied-more : i < routeCount list → (k : ℕ) (r : Route) (file′ : List ℕ) → r ≡ routeAt list i → k ≡ prefixBytes (r .len)
-      → file′ ≡ stored file at (routeBytes w r) → Bodied w list file₀ file′ (at + (k + 3)) (i + 1)
+  pub bodied-more : i < routeCount list → (k : ℕ) (r : Route) (file′ : List ℕ) → r ≡ routeAt list i → k ≡ sizeFor (r .len)
+      → file′ ≡ stored file at (routeBytes w r) → Bodied w list file₀ file′ (at + k) (i + 1)
   bodied-more h k r file′ r-is k-is file-is = record {
     passed = omega arith;
     at-end = omega (arith, so .at-end, body-more w R i k r r-is k-is);
@@ -104,11 +105,11 @@ module _ (w : ℕ) (list file₀ : List ℕ) (fits : FitsFile w list file₀) (f
       R : ℕ → Route
       R = routeAt list
 
-      end : at + (k + 3) ≤ length file
+      end : at + k ≤ length file
       end = bodied-next h k r r-is k-is
 
-      long : length (routeBytes w r) ≡ k + 3
-      long = length-route-bytes w r ∙ ap (λ (j : ℕ). j + 3) (sym k-is)
+      long : length (routeBytes w r) ≡ k
+      long = length-route-bytes w r ∙ sym k-is
 
   pub bodied-all : routeCount list ≤ i → file ≡ stored file₀ headSize (bodyOf w (routeAt list) (routeCount list))
   bodied-all h =

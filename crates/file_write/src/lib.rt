@@ -12,7 +12,9 @@ ghost use Rattle.file_write.specs.Needs.{stored, BodySize, FitsFile};
 use file_rules::HEAD_SIZE;
 use file_rules::VERSION;
 use file_rules::prefix_bytes;
+use file_rules::route_size;
 use routes::Answer;
+use routes::ROUTE_SIZE;
 use routes::Route;
 use routes::check_list;
 use routes::refusal::NO_ROOM;
@@ -48,12 +50,12 @@ fn body_size(list: &[u32]) -> usize
     requires { ⌜ listCheck 32 (now list) .number ≡ 0 ⌝ }
     ensures { λ r. ⌜ BodySize 32 (now (list .entry)) r ⌝ }
 {
-    let n = list.len() / 3;
+    let n = list.len() / ROUTE_SIZE;
     let mut size: usize = 0;
     let mut i: usize = 0;
     while i < n {
         let r = route_at(list, i);
-        size += prefix_bytes(r.len) + 3;
+        size += route_size(r.len);
         i += 1;
     }
     size
@@ -73,13 +75,13 @@ fn put_body(list: &[u32], file: &mut [u8])
     requires { ⌜ FitsFile 32 (now list) (now file) ⌝ }
     ensures { λ _. ⌜ now (file .exit) ≡ stored (now (file .entry)) headSize (bodyOf 32 (routeAt (now (list .entry))) (routeCount (now (list .entry)))) ⌝ }
 {
-    let n = list.len() / 3;
+    let n = list.len() / ROUTE_SIZE;
     let mut at = HEAD_SIZE;
     let mut i: usize = 0;
     while i < n {
         let r = route_at(list, i);
         put_bytes(file, at, r);
-        at += prefix_bytes(r.len) + 3;
+        at += route_size(r.len);
         i += 1;
     }
 }

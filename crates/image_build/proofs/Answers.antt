@@ -16,22 +16,12 @@ use Rattle.routes.proofs.Check.{accepted-valid}
 use Rattle.image_rules.specs.Node.{nodeSize}
 use Rattle.image_rules.specs.Image.{imagePaths, imageNodes, imagePorts}
 use Rattle.image_rules.specs.Lookup.{isStride, Strided}
+use Rattle.image_nodes.specs.Needs.{Stride}
 use Rattle.image_stretch.specs.Count.{nodesCount}
-use Rattle.image_stretch.proofs.Readied.{sizes}
+use Rattle.image_stretch.proofs.Room.{sizes}
 use Rattle.image_build.specs.declared.Built.{Built}
 use Rattle.image_build.specs.Build.{left, refusedBuild, doneBuild, listRoutes, imageInto, buildImage}
-use Rattle.image_build.specs.Needs.{mostNodes, Roomy}
-
--- a stride is 1, 2 or 4
-pub stride-bounds : (s : ℕ) → isStride s ≡ true → (0 < s) × (s ≤ 4)
-stride-bounds zero t = absurd (false≢true t)
-stride-bounds (suc zero) t = (omega arith, omega arith)
-stride-bounds (suc (suc zero)) t = (omega arith, omega arith)
-stride-bounds (suc (suc (suc zero))) t = absurd (false≢true t)
-stride-bounds (suc (suc (suc (suc zero)))) t = (omega arith, omega arith)
-stride-bounds (suc (suc (suc (suc (suc k))))) t =
-    let s = suc (suc (suc (suc (suc k)))) in
-    absurd (false≢true (simp (ne-eqb s 1 (λ q. omega arith), ne-eqb s 2 (λ q. omega arith), ne-eqb s 4 (λ q. omega arith)) at t))
+use Rattle.image_build.specs.Needs.{mostNodes, mostSlots, ImageRoom}
 
 module _ (w s : ℕ) (list nodes ports : List ℕ) where
   pub build-wrong-stride : isStride s ≡ false → (b : Built) → b ≡ refusedBuild wrongStride 0 → left b nodes ports ≡ buildImage w s list nodes ports
@@ -97,18 +87,16 @@ module _ (w s : ℕ) (list nodes ports : List ℕ) where
             (sym (λ i. record { built = d i; nodes = a i; ports = c i })))
 
 -- the room, as the code has tested it
-pub roomy : (w s : ℕ) (list nodes ports : List ℕ) (n count slots : ℕ) → isStride s ≡ true → slots ≡ 2 ^ s → slots ≤ 16 → n * 3 ≤ length list
-    → ValidList w (routeAt list) n → count ≡ nodesCount w (routeAt list) n s → count ≤ mostNodes
-    → count * nodeSize ≤ length nodes → count * (slots - 1) + 1 ≤ length ports → Roomy w list n s slots nodes ports
-roomy w s list nodes ports n count slots t are few whole ok counted small a b = record {
-  some = stride-bounds s t .0;
-  most = stride-bounds s t .1;
-  listed = t;
-  are = are;
-  few = few;
-  whole = whole;
+pub room-of : (w s : ℕ) (list nodes ports : List ℕ) (n count slots : ℕ) → Stride s → slots ≡ 2 ^ s → slots ≤ mostSlots
+    → ValidList w (routeAt list) n → count ≡ nodesCount w (routeAt list) n s → count ≤ mostNodes w → mostNodes w * mostSlots < 2 ^ w
+    → count * nodeSize ≤ length nodes → count * (slots - 1) + 1 ≤ length ports → ImageRoom w list n s slots nodes ports
+room-of w s list nodes ports n count slots t are few ok counted small hold a b = record {
+  strideOf = t;
+  slotsAre = are;
+  slotsFew = few;
   valid = ok;
   nodesFit = omega (arith, counted);
   portsFit = let m : count * (slots - 1) ≡ nodesCount w (routeAt list) n s * (slots - 1) = ap (λ (k : ℕ). k * (slots - 1)) counted in omega (arith, m);
-  small = omega (arith, counted);
+  nodesFew = omega (arith, counted);
+  wordsHold = hold;
 }

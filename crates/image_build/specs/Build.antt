@@ -1,4 +1,4 @@
--- Defines what a build of the image answers and leaves: rules, "The image", and "Image: 12, the list checks, then 9 for nodes or ports".
+-- Defines what a build of the image answers and leaves: rules, "The image", "Order of the checks" and "Refusals".
 -- Assumes nothing.
 use mathlib.Core.Bool.{cond, _&&_}
 use mathlib.Core.List.{List}

@@ -1,4 +1,4 @@
--- What a build answers and leaves.
+-- What a build answers and leaves, and what its functions rely on.
 pub mod Build
 pub mod Needs
 pub mod Theorems

@@ -1,40 +1,42 @@
 // How many nodes the image of a list has, by one pass over the list and with no memory.
 ghost use mathlib.Core.Path.{_≡_};
-ghost use Prim.Native.Nat.{_-_, _*_, _/_, _<_, _≤_};
-ghost use lib.ListN.{length};
+ghost use Prim.Native.Nat.{_-_, _/_, _<_, _≤_};
+ghost use Rattle.routes.specs.Refusals.{mostRoutes};
 ghost use Rattle.routes.specs.Routes.{routeAt};
-ghost use Rattle.image_stretch.specs.Count.{nodeAt, nodesAt, nodesCount};
+ghost use Rattle.image_stretch.specs.Count.{countAt, countBelow, nodesCount};
 ghost use Rattle.image_build.specs.Needs.{mostNodes};
 use prefix::Prefix;
+use routes::route_at;
 
 // 1 if route i is the last with its first (depth) bits and is longer: it then counts for their node.
-fn node_at(list: &[u32], n: usize, depth: u32, i: usize) -> usize
-    requires { ⌜ (i < n) × (n * 3 ≤ length (now list)) ⌝ }
-    ensures { λ r. ⌜ (r ≡ nodeAt 32 (routeAt (now (list .entry))) n depth i) × (r ≤ 1) ⌝ }
+fn count_at(list: &[u32], n: usize, depth: u32, i: usize) -> usize
+    requires { ⌜ i < n ⌝ }
+    ensures { λ r. ⌜ (r ≡ countAt 32 (routeAt (now (list .entry))) n depth i) × (r ≤ 1) ⌝ }
 {
-    if list[i * 3 + 1] <= depth {
+    let route = route_at(list, i);
+    if route.len <= depth {
         return 0;
     }
     let next = i + 1;
     if n <= next {
         return 1;
     }
-    if Prefix::new(list[i * 3], depth).matches(list[next * 3]) {
+    if Prefix::new(route.value, depth).matches(route_at(list, next).value) {
         return 0;
     }
     1
 }
 
 // The nodes below the root that route i counts for.
-fn nodes_at(list: &[u32], n: usize, stride: u32, i: usize) -> usize
-    requires { ⌜ (0 < stride) × (stride ≤ 4) × (i < n) × (n * 3 ≤ length (now list)) ⌝ }
-    ensures { λ r. ⌜ (r ≡ nodesAt 32 (routeAt (now (list .entry))) n stride (32 / stride - 1) stride i) × (r ≤ 31) ⌝ }
+fn count_below(list: &[u32], n: usize, stride: u32, i: usize) -> usize
+    requires { ⌜ (0 < stride) × (stride ≤ 4) × (i < n) ⌝ }
+    ensures { λ r. ⌜ (r ≡ countBelow 32 (routeAt (now (list .entry))) n stride (32 / stride - 1) stride i) × (r ≤ 31) ⌝ }
 {
     let mut left = 32 / stride - 1;
     let mut depth = stride;
     let mut count = 0;
     while 0 < left {
-        count += node_at(list, n, depth, i);
+        count += count_at(list, n, depth, i);
         depth += stride;
         left -= 1;
     }
@@ -43,13 +45,13 @@ fn nodes_at(list: &[u32], n: usize, stride: u32, i: usize) -> usize
 
 // The nodes of the image of the first n routes: the root, and those that the routes count for.
 pub(crate) fn count_nodes(list: &[u32], n: usize, stride: u32) -> usize
-    requires { ⌜ (0 < stride) × (stride ≤ 4) × (n ≤ 4096) × (n * 3 ≤ length (now list)) ⌝ }
-    ensures { λ r. ⌜ (r ≡ nodesCount 32 (routeAt (now (list .entry))) n stride) × (r ≤ mostNodes) ⌝ }
+    requires { ⌜ (0 < stride) × (stride ≤ 4) × (n ≤ mostRoutes) ⌝ }
+    ensures { λ r. ⌜ (r ≡ nodesCount 32 (routeAt (now (list .entry))) n stride) × (r ≤ mostNodes 32) ⌝ }
 {
     let mut i = 0;
     let mut count = 1;
     while i < n {
-        count += nodes_at(list, n, stride, i);
+        count += count_below(list, n, stride, i);
         i += 1;
     }
     count

@@ -1,7 +1,7 @@
 // The builder's loop: the nodes lent are the queue of the nodes still to do.
 ghost use mathlib.Core.Path.{_≡_};
 ghost use mathlib.Core.List.{[], _∷_};
-ghost use Prim.Native.Nat.{_+_, _*_, _/_, _%_, _^_, _<_, _≤_};
+ghost use Prim.Native.Nat.{_+_, _-_, _/_, _^_, _<_, _≤_};
 ghost use lib.ListN.{length};
 ghost use lib.Seq.{sets};
 ghost use Rattle.promise.specs.Over.{over};
@@ -9,75 +9,88 @@ ghost use Rattle.bits.specs.Prefix.{span};
 ghost use Rattle.prefix.specs.Prefixes.{prefix};
 ghost use Rattle.routes.specs.Routes.{routeAt};
 ghost use Rattle.lists.specs.Flat.{flat};
-ghost use Rattle.image_rules.specs.Node.{nodeWords, offset};
+ghost use Rattle.image_rules.specs.Node.{nodeWords, offset, nodeStart, storeNodes};
 ghost use Rattle.image_rules.specs.Breadth.{slotChildren, slotPorts, bitmap, children, leafPorts, levels, treeWords, treePorts};
 ghost use Rattle.image_rules.specs.Image.{imageNodes, imagePorts, routesOf};
-ghost use Rattle.image_stretch.specs.Stretches.{stretch, halfWord, slotIn, addressOf, slotAddress, stretchSlots, rootOf};
-ghost use Rattle.image_stretch.specs.Memory.{pending, pendingAt, used, filled, filledBy, turnNodes, Okay, Ready};
-ghost use Rattle.image_build.specs.Needs.{Sound, Slots, Roomy};
-use crate::search::goes_on;
-use crate::search::leaf_port;
-use crate::search::slot_stretch;
+ghost use Rattle.image_nodes.specs.Needs.{Lent};
+ghost use Rattle.image_stretch.specs.Stretches.{slotIn, addressOf, slotAddress, stretchSlots, rootOf};
+ghost use Rattle.image_stretch.specs.Memory.{pending, pendingAt, free, filled, filledBy, buildNode};
+ghost use Rattle.image_stretch.specs.Needs.{Fits, Buildable, Queue};
+ghost use Rattle.image_build.specs.Needs.{mostSlots, ImageRoom};
+use image_nodes::Distance;
+use image_nodes::Leaf;
+use image_nodes::Node;
+use image_nodes::NodeWords;
+use image_nodes::node_at;
+use image_nodes::store_node;
 use image_stretch::Filled;
+use image_stretch::Free;
+use image_stretch::HALF_WORD;
 use image_stretch::Stretch;
-use image_stretch::Used;
+use image_stretch::search::goes_on;
+use image_stretch::search::leaf_port;
+use image_stretch::search::slot_stretch;
 use prefix::Prefix;
+use routes::route_at;
 
-// A node still to do, in the three words of node number at + 1.
-fn put_stretch(nodes: &mut [u32], at: usize, x: Stretch)
-    requires { ⌜ (at * 3 + 3 ≤ length (now nodes)) × (x .lo ≤ x .hi) × (x .hi < halfWord) × (x .depth ≤ 32) × (x .best < halfWord) ⌝ }
-    ensures { λ _. ⌜ now (nodes .exit) ≡ sets (now (nodes .entry)) (at * 3) (pending x) ⌝ }
+// Stores a node still to do in the words of its node.
+fn store_pending(nodes: &mut [u32], at: Node, x: Stretch)
+    requires { ⌜ Fits x × (x .depth ≤ 32) × Lent (now nodes) (at .0) ⌝ }
+    ensures { λ _. ⌜ now (nodes .exit) ≡ storeNodes (now (nodes .entry)) (at .0) (pending x) ⌝ }
 {
-    let row = at * 3;
-    nodes[row] = x.lo as u32;
-    nodes[row + 1] = x.hi as u32;
-    nodes[row + 2] = x.depth * 65536 + x.best;
+    let words = NodeWords {
+        bitmap: x.lo as u32,
+        offset: x.hi as u32,
+        base: x.depth * HALF_WORD + x.best,
+    };
+    store_node(nodes, at, words);
 }
 
-// A node still to do, from its three words.
-fn stretch_of(lo: u32, hi: u32, rest: u32) -> Stretch
-    ensures { λ r. ⌜ r ≡ stretch lo hi (rest / halfWord) (rest % halfWord) ⌝ }
+// A node still to do, from the words of its node.
+fn pending_at(nodes: &[u32], at: Node) -> Stretch
+    requires { ⌜ Lent (now nodes) (at .0) ⌝ }
+    ensures { λ r. ⌜ r ≡ pendingAt (now (nodes .entry)) (at .0) ⌝ }
 {
+    let x = node_at(nodes, at);
     Stretch {
-        lo: lo as usize,
-        hi: hi as usize,
-        depth: rest / 65536,
-        best: rest % 65536,
+        lo: x.bitmap as usize,
+        hi: x.offset as usize,
+        depth: x.base / HALF_WORD,
+        best: x.base % HALF_WORD,
     }
 }
 
-// A node's words.
-fn put_node(nodes: &mut [u32], at: usize, bits: u32, distance: usize, base: usize)
-    requires { ⌜ (at * 3 + 3 ≤ length (now nodes)) × (distance < 2 ^ 32) × (base < 2 ^ 32) ⌝ }
-    ensures { λ _. ⌜ now (nodes .exit) ≡ sets (now (nodes .entry)) (at * 3) (nodeWords bits distance base) ⌝ }
+// Stores a node's words.
+fn put_node(nodes: &mut [u32], at: Node, bits: u32, distance: Distance, base: Leaf)
+    requires { ⌜ Lent (now nodes) (at .0) × (distance .0 < 2 ^ 32) × (base .0 < 2 ^ 32) ⌝ }
+    ensures { λ _. ⌜ now (nodes .exit) ≡ storeNodes (now (nodes .entry)) (at .0) (nodeWords bits (distance .0) (base .0)) ⌝ }
 {
-    let row = at * 3;
-    nodes[row] = bits;
-    nodes[row + 1] = distance as u32;
-    nodes[row + 2] = base as u32;
+    let words = NodeWords {
+        bitmap: bits,
+        offset: distance.0 as u32,
+        base: base.0 as u32,
+    };
+    store_node(nodes, at, words);
 }
 
-// From node number i + 1 to its first child, which is the next node; 0 if it has none.
-fn distance_to(children: usize, next: usize, i: usize) -> usize
-    requires { ⌜ i ≤ next ⌝ }
-    ensures { λ r. ⌜ (r ≡ offset children (next + 1) (i + 1)) × (r ≤ next) ⌝ }
+// From a node to its first child, where its children are the nodes from `first` up to `past`; 0 if there are none.
+fn offset_to(at: Node, first: Node, past: Node) -> Distance
+    ensures { λ r. ⌜ (r .0 ≡ offset (past .0 - first .0) (first .0) (at .0)) × (r .0 ≤ first .0 - at .0) ⌝ }
 {
-    if children == 0 {
-        return 0;
+    if past.0 <= first.0 {
+        return Distance(0);
     }
-    next - i
+    at.to(first)
 }
 
 // The first address of a node: that of any route in it. Only the root may have none.
 fn address_of(list: &[u32], x: Stretch) -> u32
-    requires { ⌜ Sound (now list) x ⌝ }
     ensures { λ r. ⌜ r ≡ addressOf 32 (routeAt (now (list .entry))) x ⌝ }
 {
-    let lo = x.lo;
-    if x.hi <= lo {
+    if x.hi <= x.lo {
         return 0;
     }
-    Prefix::new(list[lo * 3], x.depth).first()
+    Prefix::new(route_at(list, x.lo).value, x.depth).first()
 }
 
 // How many addresses a slot has whose bits are so many.
@@ -90,7 +103,7 @@ fn span_of(depth: u32) -> u64
 
 // The prefix of slot j of the node that begins at an address.
 fn slot_place(address: u32, depth: u32, j: u32) -> Prefix
-    requires { ⌜ (depth ≤ 32) × (j ≤ 16) ⌝ }
+    requires { ⌜ (depth ≤ 32) × (j ≤ mostSlots) ⌝ }
     ensures { λ r. ⌜ r ≡ prefix (slotAddress 32 address depth j) depth ⌝ }
 {
     let value = (address as u64 + j as u64 * span_of(depth)) % 4294967296;
@@ -99,27 +112,29 @@ fn slot_place(address: u32, depth: u32, j: u32) -> Prefix
 
 // One slot: a leaf's port, or a node still to do.
 fn fill_slot(list: &[u32], y: Stretch, nodes: &mut [u32], ports: &mut [u16], st: Filled) -> Filled
-    requires { ⌜ Sound (now list) y × (y .hi < halfWord) × (y .depth ≤ 32) × (st .bitmap < 2 ^ 31)
-        × ((st .nodes + length (slotChildren (slotIn (routeAt (now list)) y))) * 3 ≤ length (now nodes))
-        × (st .ports + length (slotPorts (slotIn (routeAt (now list)) y)) ≤ length (now ports)) ⌝ }
+    requires { ⌜ Fits y × (y .depth ≤ 32) × (st .bitmap < 2 ^ 31) × (0 < st .node .0)
+        × (nodeStart (st .node .0 + length (slotChildren (slotIn (routeAt (now list)) y))) ≤ length (now nodes))
+        × (st .leaf .0 + length (slotPorts (slotIn (routeAt (now list)) y)) ≤ length (now ports)) ⌝ }
     ensures { λ r. ⌜ (r ≡ filledBy (slotIn (routeAt (now (list .entry))) y) st)
-        × (now (nodes .exit) ≡ sets (now (nodes .entry)) (st .nodes * 3) (flat pending (slotChildren (slotIn (routeAt (now (list .entry))) y))))
-        × (now (ports .exit) ≡ sets (now (ports .entry)) (st .ports) (slotPorts (slotIn (routeAt (now (list .entry))) y))) ⌝ }
+        × (now (nodes .exit) ≡ storeNodes (now (nodes .entry)) (st .node .0) (flat pending (slotChildren (slotIn (routeAt (now (list .entry))) y))))
+        × (now (ports .exit) ≡ sets (now (ports .entry)) (st .leaf .0) (slotPorts (slotIn (routeAt (now (list .entry))) y))) ⌝ }
 {
+    let node = st.node;
+    let leaf = st.leaf;
     if goes_on(list, y) {
-        put_stretch(nodes, st.nodes, y);
+        store_pending(nodes, node, y);
         return Filled {
             bitmap: st.bitmap * 2,
-            nodes: st.nodes + 1,
-            ports: st.ports,
+            node: node.plus(Distance(1)),
+            leaf,
         };
     }
-    let at = st.ports;
-    ports[at] = leaf_port(list, y) as u16;
+    let place = leaf.0;
+    ports[place] = leaf_port(list, y) as u16;
     Filled {
         bitmap: st.bitmap * 2 + 1,
-        nodes: st.nodes,
-        ports: at + 1,
+        node,
+        leaf: leaf.after(1),
     }
 }
 
@@ -131,77 +146,86 @@ fn fill_node(
     slots: u32,
     nodes: &mut [u32],
     ports: &mut [u16],
-    at: Used,
+    at: Free,
 ) -> Filled
-    requires { ⌜ Slots stride slots × Okay 32 (now list) stride x
-        × ((at .nodes + length (flat slotChildren (stretchSlots 32 (routeAt (now list)) stride slots x))) * 3 ≤ length (now nodes))
-        × (at .ports + length (flat slotPorts (stretchSlots 32 (routeAt (now list)) stride slots x)) ≤ length (now ports)) ⌝ }
+    requires { ⌜ (slots ≤ mostSlots) × Buildable 32 stride x × (0 < at .node .0)
+        × (nodeStart (at .node .0 + length (flat slotChildren (stretchSlots 32 (routeAt (now list)) stride slots x))) ≤ length (now nodes))
+        × (at .leaf .0 + length (flat slotPorts (stretchSlots 32 (routeAt (now list)) stride slots x)) ≤ length (now ports)) ⌝ }
     ensures { λ r. ⌜ (r ≡ filled (bitmap (stretchSlots 32 (routeAt (now (list .entry))) stride slots x))
-        (at .nodes + length (flat slotChildren (stretchSlots 32 (routeAt (now (list .entry))) stride slots x)))
-        (at .ports + length (flat slotPorts (stretchSlots 32 (routeAt (now (list .entry))) stride slots x))))
-        × (now (nodes .exit) ≡ sets (now (nodes .entry)) (at .nodes * 3) (flat pending (flat slotChildren (stretchSlots 32 (routeAt (now (list .entry))) stride slots x))))
-        × (now (ports .exit) ≡ sets (now (ports .entry)) (at .ports) (flat slotPorts (stretchSlots 32 (routeAt (now (list .entry))) stride slots x))) ⌝ }
+        (at .node .0 + length (flat slotChildren (stretchSlots 32 (routeAt (now (list .entry))) stride slots x)))
+        (at .leaf .0 + length (flat slotPorts (stretchSlots 32 (routeAt (now (list .entry))) stride slots x))))
+        × (now (nodes .exit) ≡ storeNodes (now (nodes .entry)) (at .node .0) (flat pending (flat slotChildren (stretchSlots 32 (routeAt (now (list .entry))) stride slots x))))
+        × (now (ports .exit) ≡ sets (now (ports .entry)) (at .leaf .0) (flat slotPorts (stretchSlots 32 (routeAt (now (list .entry))) stride slots x))) ⌝ }
 {
     let address = address_of(list, x);
     let depth = x.depth + stride;
+    let node = at.node;
+    let leaf = at.leaf;
     let mut j = 0;
     let mut st = Filled {
         bitmap: 0,
-        nodes: at.nodes,
-        ports: at.ports,
+        node,
+        leaf,
     };
     while j < slots {
-        let y = slot_stretch(list, x, slot_place(address, depth, j));
+        let y = slot_stretch(list, x, x.lo, slot_place(address, depth, j));
         st = fill_slot(list, y, nodes, ports, st);
         j += 1;
     }
     st
 }
 
-// Node number i + 1: its children are put after the nodes in use, and its words over its own.
-fn turn_at(
+// One node: its children are put from the first node on that is not in use, and its words over its own.
+fn build_node(
     list: &[u32],
     stride: u32,
     slots: u32,
     nodes: &mut [u32],
     ports: &mut [u16],
-    i: usize,
-    at: Used,
-) -> Used
-    requires { ⌜ Slots stride slots × (i < at .nodes) × (at .nodes * 3 ≤ length (now nodes)) × (at .nodes < 2 ^ 32) × (at .ports < 2 ^ 32)
-        × Okay 32 (now list) stride (pendingAt (now nodes) i)
-        × ((at .nodes + length (children (stretchSlots 32 (routeAt (now list)) stride slots) (pendingAt (now nodes) i))) * 3 ≤ length (now nodes))
-        × (at .ports + length (leafPorts (stretchSlots 32 (routeAt (now list)) stride slots) (pendingAt (now nodes) i)) ≤ length (now ports)) ⌝ }
-    ensures { λ r. ⌜ (r ≡ used (at .nodes + length (children (stretchSlots 32 (routeAt (now (list .entry))) stride slots) (pendingAt (now (nodes .entry)) i)))
-        (at .ports + length (leafPorts (stretchSlots 32 (routeAt (now (list .entry))) stride slots) (pendingAt (now (nodes .entry)) i))))
-        × (now (nodes .exit) ≡ turnNodes (stretchSlots 32 (routeAt (now (list .entry))) stride slots) (now (nodes .entry)) i (at .nodes) (at .ports) (pendingAt (now (nodes .entry)) i))
-        × (now (ports .exit) ≡ sets (now (ports .entry)) (at .ports) (leafPorts (stretchSlots 32 (routeAt (now (list .entry))) stride slots) (pendingAt (now (nodes .entry)) i))) ⌝ }
+    at: Node,
+    st: Free,
+) -> Free
+    requires { ⌜ (slots ≤ mostSlots) × (0 < at .0) × (at .0 < st .node .0) × (st .node .0 ≤ 2 ^ 32) × (st .leaf .0 < 2 ^ 32)
+        × Buildable 32 stride (pendingAt (now nodes) (at .0))
+        × (nodeStart (st .node .0 + length (children (stretchSlots 32 (routeAt (now list)) stride slots) (pendingAt (now nodes) (at .0)))) ≤ length (now nodes))
+        × (st .leaf .0 + length (leafPorts (stretchSlots 32 (routeAt (now list)) stride slots) (pendingAt (now nodes) (at .0))) ≤ length (now ports)) ⌝ }
+    ensures { λ r. ⌜ (r ≡ free (st .node .0 + length (children (stretchSlots 32 (routeAt (now (list .entry))) stride slots) (pendingAt (now (nodes .entry)) (at .0))))
+        (st .leaf .0 + length (leafPorts (stretchSlots 32 (routeAt (now (list .entry))) stride slots) (pendingAt (now (nodes .entry)) (at .0)))))
+        × (now (nodes .exit) ≡ buildNode (stretchSlots 32 (routeAt (now (list .entry))) stride slots) (now (nodes .entry)) (at .0) (st .node .0) (st .leaf .0) (pendingAt (now (nodes .entry)) (at .0)))
+        × (now (ports .exit) ≡ sets (now (ports .entry)) (st .leaf .0) (leafPorts (stretchSlots 32 (routeAt (now (list .entry))) stride slots) (pendingAt (now (nodes .entry)) (at .0)))) ⌝ }
 {
-    let row = i * 3;
-    let x = stretch_of(nodes[row], nodes[row + 1], nodes[row + 2]);
-    let next = at.nodes;
-    let base = at.ports;
-    let f = fill_node(list, x, stride, slots, nodes, ports, at);
-    let distance = distance_to(f.nodes - next, next, i);
-    put_node(nodes, i, f.bitmap, distance, base);
-    Used {
-        nodes: f.nodes,
-        ports: f.ports,
-    }
+    let x = pending_at(nodes, at);
+    let first = st.node;
+    let base = st.leaf;
+    let f = fill_node(list, x, stride, slots, nodes, ports, st);
+    let node = f.node;
+    let leaf = f.leaf;
+    put_node(nodes, at, f.bitmap, offset_to(at, first, node), base);
+    Free { node, leaf }
 }
 
 // All nodes, one after the other; the root is there already.
-fn run_all(list: &[u32], n: usize, stride: u32, slots: u32, nodes: &mut [u32], ports: &mut [u16])
-    requires { ⌜ Slots stride slots × (now nodes ≡ sets (now nodes) 0 (pending (rootOf n)))
-        × Ready 32 (now list) stride n (stretchSlots 32 (routeAt (now list)) stride slots) (levels (stretchSlots 32 (routeAt (now list)) stride slots) (32 / stride) (rootOf n ∷ [])) (now nodes) (now ports) ⌝ }
+fn build_nodes(
+    list: &[u32],
+    n: usize,
+    stride: u32,
+    slots: u32,
+    nodes: &mut [u32],
+    ports: &mut [u16],
+)
+    requires { ⌜ (slots ≤ mostSlots) × (now nodes ≡ storeNodes (now nodes) 1 (pending (rootOf n)))
+        × Queue 32 stride n (stretchSlots 32 (routeAt (now list)) stride slots) (levels (stretchSlots 32 (routeAt (now list)) stride slots) (32 / stride) (rootOf n ∷ [])) (now nodes) (now ports) ⌝ }
     ensures { λ _. ⌜ (now (nodes .exit) ≡ over (treeWords (stretchSlots 32 (routeAt (now (list .entry))) stride slots) (levels (stretchSlots 32 (routeAt (now (list .entry))) stride slots) (32 / stride) (rootOf n ∷ []))) (now (nodes .entry)))
         × (now (ports .exit) ≡ over (treePorts (stretchSlots 32 (routeAt (now (list .entry))) stride slots) (levels (stretchSlots 32 (routeAt (now (list .entry))) stride slots) (32 / stride) (rootOf n ∷ []))) (now (ports .entry))) ⌝ }
 {
-    let mut i = 0;
-    let mut at = Used { nodes: 1, ports: 0 };
-    while i < at.nodes {
-        at = turn_at(list, stride, slots, nodes, ports, i, at);
-        i += 1;
+    let mut at = Node::ROOT;
+    let mut st = Free {
+        node: Node(2),
+        leaf: Leaf(0),
+    };
+    while at.0 < st.node.0 {
+        st = build_node(list, stride, slots, nodes, ports, at, st);
+        at = at.plus(Distance(1));
     }
 }
 
@@ -214,13 +238,13 @@ pub(crate) fn write_image(
     nodes: &mut [u32],
     ports: &mut [u16],
 )
-    requires { ⌜ Roomy 32 (now list) n stride slots (now nodes) (now ports) ⌝ }
+    requires { ⌜ ImageRoom 32 (now list) n stride slots (now nodes) (now ports) ⌝ }
     ensures { λ _. ⌜ (now (nodes .exit) ≡ over (imageNodes stride (32 / stride) (routesOf 32 (routeAt (now (list .entry))) n)) (now (nodes .entry)))
         × (now (ports .exit) ≡ over (imagePorts stride (32 / stride) (routesOf 32 (routeAt (now (list .entry))) n)) (now (ports .entry))) ⌝ }
 {
-    put_stretch(
+    store_pending(
         nodes,
-        0,
+        Node::ROOT,
         Stretch {
             lo: 0,
             hi: n,
@@ -228,5 +252,5 @@ pub(crate) fn write_image(
             best: 0,
         },
     );
-    run_all(list, n, stride, slots, nodes, ports);
+    build_nodes(list, n, stride, slots, nodes, ports);
 }

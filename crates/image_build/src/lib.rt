@@ -1,17 +1,18 @@
 // Building the image of a route list into lent memory, which is all the memory that it uses.
 ghost use mathlib.Core.Path.{_≡_};
-ghost use Prim.Native.Nat.{_^_, _<_, _≤_};
-ghost use Rattle.image_rules.specs.Lookup.{isStride};
 ghost use Rattle.image_build.specs.Build.{left, refusedBuild, doneBuild, buildImage};
 use count::count_nodes;
 use fill::write_image;
+use image_nodes::NODE_SIZE;
+use image_nodes::is_stride;
+use image_nodes::slots_of;
+use routes::ROUTE_SIZE;
 use routes::check_list;
 use routes::refusal::NO_ROOM;
 use routes::refusal::WRONG_STRIDE;
 
 mod count;
 mod fill;
-mod search;
 
 // What a build answers: the refusal's number and place, both 0 where it is done, and the nodes and ports written.
 pub struct Built {
@@ -45,27 +46,6 @@ impl Built {
     }
 }
 
-// Whether a number is a stride: 1, 2 or 4.
-fn is_stride(stride: u32) -> bool
-    ensures { λ r. ⌜ r ≡ isStride stride ⌝ }
-{
-    if stride == 1 {
-        return true;
-    }
-    if stride == 2 {
-        return true;
-    }
-    stride == 4
-}
-
-// 2^stride, the slots of a node.
-fn slots_of(stride: u32) -> u32
-    requires { ⌜ stride ≤ 4 ⌝ }
-    ensures { λ r. ⌜ (r ≡ 2 ^ stride) × (0 < r) × (r ≤ 16) ⌝ }
-{
-    1u32 << stride
-}
-
 // The image of a list, written into the nodes and the ports lent. Refuses 12 at place 0, then as the check of the list does, then 9
 // at place 0 where the nodes or the ports do not fit. The nodes are counted first, so that a refusal writes nothing.
 pub fn build(stride: u32, list: &[u32], nodes: &mut [u32], ports: &mut [u16]) -> Built
@@ -76,11 +56,11 @@ pub fn build(stride: u32, list: &[u32], nodes: &mut [u32], ports: &mut [u16]) ->
         if checked.number != 0 {
             return Built::refused(checked.number, checked.place);
         }
-        let n = list.len() / 3;
+        let n = list.len() / ROUTE_SIZE;
         let slots = slots_of(stride);
         let count = count_nodes(list, n, stride);
         let leaves = count * (slots as usize - 1) + 1;
-        if nodes.len() < count * 3 {
+        if nodes.len() < count * NODE_SIZE {
             return Built::refused(NO_ROOM, 0);
         }
         if ports.len() < leaves {

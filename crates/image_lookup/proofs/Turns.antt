@@ -14,7 +14,7 @@ use Rattle.routes.specs.Refusals.{notInOrder, lost}
 use Rattle.image_rules.specs.Node.{nodeCount, isNode, bitmapOf, offsetOf, baseOf}
 use Rattle.image_rules.specs.Lookup.{leafAt, addressSlot, childAt, walk, lookupWords}
 use Rattle.image_rules.proofs.Walk.{walk-leaf, walk-child}
-use Rattle.image_lookup.specs.Needs.{Stride, Lent}
+use Rattle.image_nodes.specs.Needs.{Lent, Stride}
 
 -- a bitmap with nothing above its n lowest bits, and one with something there
 
@@ -42,7 +42,7 @@ module _ (s n : ℕ) (is : n ≡ 2 ^ s) (nodes ports : List ℕ) (addr a reads :
   -- at a node lent, whose bitmap is b
   module _ (lent : Lent nodes a) (b : ℕ) (own : b ≡ bitmapOf nodes a) where
     node : isNode nodes a ≡ true
-    node = rw (lt-ltb 0 a (lent .some), le-leb a (nodeCount nodes) (lent .most))
+    node = rw (lt-ltb 0 a (lent .positive), le-leb a (nodeCount nodes) (lent .within))
 
     pub turn-wide : (left : ℕ) → 0 < left → (b / 2 ^ n ≡ 0 → ⊥)
         → walk s nodes ports addr left a reads ≡ lost notInOrder (reads + 1)
@@ -96,7 +96,7 @@ turn-none s nodes ports addr (suc k) a reads h = absurd (omega arith)
 
 -- on the way: what is still to do from node a equals the whole
 pub record Going (w s : ℕ) (nodes ports : List ℕ) (addr left a reads : ℕ) : Type 0 where
-  pub some : 0 < a
+  pub positive : 0 < a
   pub fits : s * left ≤ w
   pub short : left ≤ w
   pub counted : reads + left ≤ w
@@ -105,7 +105,7 @@ pub record Going (w s : ℕ) (nodes ports : List ℕ) (addr left a reads : ℕ) 
 pub going-none : (w s : ℕ) (nodes ports : List ℕ) (addr : ℕ) → Stride s → Going w s nodes ports addr (w / s) 1 0
 unfolding lookupWords
 going-none w s nodes ports addr h = record {
-  some = omega arith;
+  positive = omega arith;
   fits = omega (arith, mul-div-le w s);
   short = div-le-self w s;
   counted = omega (arith, div-le-self w s);
@@ -116,7 +116,7 @@ pub going-more : (w s : ℕ) (nodes ports : List ℕ) (addr left a reads next : 
     → 0 < next → walk s nodes ports addr left a reads ≡ walk s nodes ports addr (left - 1) next (reads + 1)
     → Going w s nodes ports addr (left - 1) next (reads + 1)
 going-more w s nodes ports addr left a reads next g h l e = record {
-  some = l;
+  positive = l;
   fits = omega (arith, stride-off s left h);
   short = omega arith;
   counted = omega arith;

@@ -1,2 +1,2 @@
--- What a lookup answers, and what a caller reads off it.
+-- What the lookup's functions rely on. What a lookup answers, image_rules defines.
 pub mod Needs

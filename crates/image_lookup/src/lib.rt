@@ -1,88 +1,32 @@
 // The image's lookup, on whatever words and ports are lent: at most 32 / stride nodes are read.
 ghost use mathlib.Core.Path.{_≡_};
-ghost use Prim.Native.Nat.{_+_, _^_, _≤_, _<_};
+ghost use Prim.Native.Nat.{_+_};
 ghost use lib.Dec.{eqb};
 ghost use Rattle.bits.specs.Bitmap.{slotBit, onesBefore};
-ghost use Rattle.image_rules.specs.Node.{nodeCount, bitmapOf, offsetOf, baseOf};
+ghost use Rattle.image_rules.specs.Node.{offsetOf, baseOf};
 ghost use Rattle.image_rules.specs.Lookup.{leafAt, lookupWords};
 ghost use Rattle.routes.specs.Refusals.{found, lost};
-ghost use Rattle.image_lookup.specs.Needs.{Stride, Lent, InSlots};
+ghost use Rattle.image_nodes.specs.Needs.{Lent, Stride};
+ghost use Rattle.image_lookup.specs.Needs.{InSlots};
+use image_nodes::Distance;
+use image_nodes::Leaf;
+use image_nodes::Node;
+use image_nodes::base_of;
+use image_nodes::bitmap_of;
+use image_nodes::node_count;
+use image_nodes::offset_of;
+use image_nodes::slots_of;
+use image_nodes::wide;
 use routes::found::Found;
 use routes::refusal::LAST_PORT;
 use routes::refusal::NOT_IN_ORDER;
 use routes::refusal::WRONG_STRIDE;
 
-// A node number, a distance and a leaf number are kept apart, as the sources keep apart a location and an offset.
-pub struct Node(pub usize);
-
-pub struct Distance(pub usize);
-
-pub struct Leaf(pub usize);
-
-impl Node {
-    // Nodes are numbered from 1, the root first.
-    pub const ROOT: Node = Node(1);
-
-    // The one sum that the rules allow: a distance added to a node number gives a node number.
-    fn plus(self, distance: Distance) -> Node
-        requires { ⌜ self .0 + distance .0 < 2 ^ 64 ⌝ }
-        ensures { λ r. ⌜ r .0 ≡ self .0 + distance .0 ⌝ }
-    {
-        Node(self.0 + distance.0)
-    }
-}
-
-impl Leaf {
-    // The leaf that comes so many leaves after this one. A count of leaves is none of the three kinds of number.
-    fn after(self, count: usize) -> Leaf
-        requires { ⌜ self .0 + count < 2 ^ 64 ⌝ }
-        ensures { λ r. ⌜ r .0 ≡ self .0 + count ⌝ }
-    {
-        Leaf(self.0 + count)
-    }
-}
-
-fn wide(x: u32) -> usize
-    ensures { λ r. ⌜ (r ≡ x) × (r < 2 ^ 32) ⌝ }
-{
-    x as usize
-}
-
+// A port as a word.
 fn word(x: u16) -> u32
     ensures { λ r. ⌜ r ≡ x ⌝ }
 {
     x as u32
-}
-
-// The whole nodes lent. This and the next three say where a node's words are, and nothing else does.
-fn node_count(nodes: &[u32]) -> usize
-    ensures { λ r. ⌜ r ≡ nodeCount (now (nodes .entry)) ⌝ }
-{
-    nodes.len() / 3
-}
-
-fn bitmap_of(nodes: &[u32], at: Node) -> u32
-    requires { ⌜ Lent (now nodes) (at .0) ⌝ }
-    ensures { λ r. ⌜ r ≡ bitmapOf (now (nodes .entry)) (at .0) ⌝ }
-{
-    let a = at.0;
-    nodes[(a - 1) * 3]
-}
-
-fn offset_of(nodes: &[u32], at: Node) -> Distance
-    requires { ⌜ Lent (now nodes) (at .0) ⌝ }
-    ensures { λ r. ⌜ (r .0 ≡ offsetOf (now (nodes .entry)) (at .0)) × (r .0 < 2 ^ 32) ⌝ }
-{
-    let a = at.0;
-    Distance(wide(nodes[(a - 1) * 3 + 1]))
-}
-
-fn base_of(nodes: &[u32], at: Node) -> Leaf
-    requires { ⌜ Lent (now nodes) (at .0) ⌝ }
-    ensures { λ r. ⌜ (r .0 ≡ baseOf (now (nodes .entry)) (at .0)) × (r .0 < 2 ^ 32) ⌝ }
-{
-    let a = at.0;
-    Leaf(wide(nodes[(a - 1) * 3 + 2]))
 }
 
 // The number of ones in the slots before slot j: the count of ones of the bitmap's part before it.
@@ -130,14 +74,6 @@ fn child_of(nodes: &[u32], at: Node, zeros: u32) -> Node
 {
     let first = at.plus(offset_of(nodes, at));
     first.plus(Distance(wide(zeros)))
-}
-
-// 2^stride, the slots of a node.
-fn slots_of(stride: u32) -> u32
-    requires { ⌜ stride ≤ 4 ⌝ }
-    ensures { λ r. ⌜ (r ≡ 2 ^ stride) × (0 < r) × (r < 32) ⌝ }
-{
-    1u32 << stride
 }
 
 // The walk down from the root. No node has the number 0: the root's is 1, and distances are only added to it.

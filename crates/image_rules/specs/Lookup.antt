@@ -1,4 +1,4 @@
--- Defines the lookup on any words: rules, "Lookup at node a, slot j". Sums are exact: a damaged offset points past the nodes lent and
+-- Defines the lookup on any words: rules, "Lookup in an image". Sums are exact: a damaged offset points past the nodes lent and
 -- never wraps. Assumes nothing.
 use mathlib.Core.Bool.{Bool, true, cond}
 use mathlib.Core.List.{List}

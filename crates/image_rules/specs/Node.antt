@@ -1,10 +1,11 @@
--- Defines where a node lies in the words lent, and what its words say: rules, "A node is three 32-bit words". No other file says
--- where a word of a node is. Assumes nothing.
+-- Defines where a node lies in the words lent, and what its words say: rules, "Nodes". No other definition says where a word of a node
+-- is; in code image_nodes alone does. Assumes nothing.
 use mathlib.Core.Bool.{Bool, cond, _&&_}
 use mathlib.Core.List.{List, [], _∷_}
 use Prim.Native.Nat.{ℕ, _+_, _-_, _*_, _/_}
 use lib.Dec.{eqb, ltb, leb}
 use lib.ListN.{length, getD}
+use lib.Seq.{sets}
 
 abbrev pub nodeSize : ℕ
 nodeSize = 3
@@ -25,11 +26,23 @@ nodeCount nodes = length nodes / nodeSize
 abbrev pub isNode : List ℕ → ℕ → Bool
 isNode nodes a = ltb 0 a && leb a (nodeCount nodes)
 
+-- the place of node a's first word
+abbrev pub nodeStart : ℕ → ℕ
+nodeStart a = (a - 1) * nodeSize
+
 abbrev pub bitmapOf : List ℕ → ℕ → ℕ
-bitmapOf nodes a = getD nodes ((a - 1) * nodeSize) 0
+bitmapOf nodes a = getD nodes (nodeStart a) 0
 
 abbrev pub offsetOf : List ℕ → ℕ → ℕ
-offsetOf nodes a = getD nodes ((a - 1) * nodeSize + 1) 0
+offsetOf nodes a = getD nodes (nodeStart a + 1) 0
 
 abbrev pub baseOf : List ℕ → ℕ → ℕ
-baseOf nodes a = getD nodes ((a - 1) * nodeSize + 2) 0
+baseOf nodes a = getD nodes (nodeStart a + 2) 0
+
+-- the words of some nodes, stored from node a on
+abbrev pub storeNodes : List ℕ → ℕ → List ℕ → List ℕ
+storeNodes nodes a words = sets nodes (nodeStart a) words
+
+-- the words of node a stored; where it is not lent whole nothing is
+unfoldable pub storeNode : List ℕ → ℕ → List ℕ → List ℕ
+storeNode nodes a words = cond (isNode nodes a) (storeNodes nodes a words) nodes

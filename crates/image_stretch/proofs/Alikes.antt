@@ -34,7 +34,7 @@ use Rattle.image_rules.proofs.Longer.{some-longer, some-longer→, scan-more}
 use Rattle.image_rules.proofs.Listed.{valid-imaged}
 use Rattle.image_stretch.specs.declared.Stretch.{Stretch}
 use Rattle.image_stretch.specs.Stretches.{goesOn, leafPort}
-use Rattle.image_stretch.proofs.Search.{last-match-none, carried-is}
+use Rattle.image_stretch.proofs.FirstAndLast.{last-match-none, carried-is}
 use Rattle.image_stretch.proofs.Places.{Place}
 
 -- bits and numbers

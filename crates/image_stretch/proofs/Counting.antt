@@ -25,7 +25,7 @@ use Rattle.image_rules.proofs.Numbering.{level-all}
 use Rattle.image_rules.proofs.Image.{levels-pos}
 use Rattle.image_stretch.specs.declared.Stretch.{Stretch}
 use Rattle.image_stretch.specs.Stretches.{goesOn, slotStretch, stretchSlot, stretchSlots, rootOf, stretches}
-use Rattle.image_stretch.specs.Count.{nodeAt, nodesAt, sumOf, nodesCount}
+use Rattle.image_stretch.specs.Count.{countAt, countBelow, sumOf, nodesCount}
 use Rattle.image_stretch.specs.Theorems.{CountIs}
 use Rattle.image_stretch.proofs.Places.{Place}
 use Rattle.image_stretch.proofs.Alikes.{last-longer}
@@ -70,30 +70,30 @@ total-ones g h (x ∷ xs) = omega (arith, h x, total-ones g h xs)
 
 module _ (w s : ℕ) (R : ℕ → Route) (n : ℕ) where
   -- a route that is no longer than l counts for no node from there on
-  nodes-none : (k l i : ℕ) → R i .len ≤ l → nodesAt w R n s k l i ≡ 0
-  unfolding nodesAt nodeAt
+  nodes-none : (k l i : ℕ) → R i .len ≤ l → countBelow w R n s k l i ≡ 0
+  unfolding countBelow countAt
   nodes-none zero l i h = refl
   nodes-none (suc k) l i h = rw (le-ltb l (R i .len) h, nodes-none k (l + s) i (omega arith))
 
   nodes-suc : (k l m i : ℕ)
-      → sumOf (nodesAt w R n s (suc k) l) m i ≡ sumOf (nodeAt w R n l) m i + sumOf (nodesAt w R n s k (l + s)) m i
-  unfolding sumOf nodesAt
+      → sumOf (countBelow w R n s (suc k) l) m i ≡ sumOf (countAt w R n l) m i + sumOf (countBelow w R n s k (l + s)) m i
+  unfolding sumOf countBelow
   nodes-suc k l zero i = refl
   nodes-suc k l (suc m) i = omega (arith, nodes-suc k l m (i + 1))
 
   -- the nodes of the tree below x on k levels more, x too
   size : ℕ → Stretch → ℕ
-  size k x = 1 + sumOf (nodesAt w R n s k (x .depth + s)) (x .hi - x .lo) (x .lo)
+  size k x = 1 + sumOf (countBelow w R n s k (x .depth + s)) (x .hi - x .lo) (x .lo)
 
   size-one : (x : Stretch) → size 0 x ≡ 1
-  unfolding size nodesAt
-  size-one x = ap (λ (m : ℕ). 1 + m) (sum-none (nodesAt w R n s 0 (x .depth + s)) (x .hi - x .lo) (x .lo) (λ m a b. refl))
+  unfolding size countBelow
+  size-one x = ap (λ (m : ℕ). 1 + m) (sum-none (countBelow w R n s 0 (x .depth + s)) (x .hi - x .lo) (x .lo) (λ m a b. refl))
 
   module _ (ok : ValidList w R n) where
     -- of the routes of a place, only the last counts for it
     module _ (z : Stretch) (h : ℕ) (p : Place w R n h z) where
-      shares : (i : ℕ) → z .lo ≤ i → i + 1 < z .hi → nodeAt w R n (z .depth) i ≡ 0
-      unfolding nodeAt
+      shares : (i : ℕ) → z .lo ≤ i → i + 1 < z .hi → countAt w R n (z .depth) i ≡ 0
+      unfolding countAt
       shares i a b =
           let m : matches w (R i .value) (z .depth) (R (i + 1) .value) ≡ true =
           eq-eqb (head w (z .depth) (R (i + 1) .value)) (head w (z .depth) (R i .value))
@@ -104,8 +104,8 @@ module _ (w s : ℕ) (R : ℕ → Route) (n : ℕ) where
           both-none true = refl
           both-none false = refl
 
-      closes : z .lo < z .hi → z .depth < R (z .hi - 1) .len → nodeAt w R n (z .depth) (z .hi - 1) ≡ 1
-      unfolding nodeAt
+      closes : z .lo < z .hi → z .depth < R (z .hi - 1) .len → countAt w R n (z .depth) (z .hi - 1) ≡ 1
+      unfolding countAt
       closes a l = rw (lt-ltb (z .depth) (R (z .hi - 1) .len) l) (by (way (ltb (z .hi - 1 + 1) n)))
         where
           apart : z .hi - 1 + 1 < n → matches w (R (z .hi - 1) .value) (z .depth) (R (z .hi - 1 + 1) .value) ≡ false
@@ -120,14 +120,14 @@ module _ (w s : ℕ) (R : ℕ → Route) (n : ℕ) where
           by (inl t) = rw (t, apart (ltb-true (z .hi - 1 + 1) n t))
           by (inr t) = rw t
 
-      one-node : z .lo < z .hi → z .depth < R (z .hi - 1) .len → sumOf (nodeAt w R n (z .depth)) (z .hi - z .lo) (z .lo) ≡ 1
+      one-node : z .lo < z .hi → z .depth < R (z .hi - 1) .len → sumOf (countAt w R n (z .depth)) (z .hi - z .lo) (z .lo) ≡ 1
       unfolding sumOf
       one-node a l =
           let e : z .hi - (z .hi - 1) ≡ 1 = omega arith in
-          sum-split (nodeAt w R n (z .depth)) (z .lo) (z .hi - 1) (z .hi) (omega arith) (omega arith)
+          sum-split (countAt w R n (z .depth)) (z .lo) (z .hi - 1) (z .hi) (omega arith) (omega arith)
           ∙ ap₂ (λ (c d : ℕ). c + d)
-          (sum-none (nodeAt w R n (z .depth)) (z .hi - 1 - z .lo) (z .lo) (λ m b c. shares m b (omega arith)))
-          (ap (λ (m : ℕ). sumOf (nodeAt w R n (z .depth)) m (z .hi - 1)) e ∙ ap (λ (m : ℕ). m + 0) (closes a l))
+          (sum-none (countAt w R n (z .depth)) (z .hi - 1 - z .lo) (z .lo) (λ m b c. shares m b (omega arith)))
+          (ap (λ (m : ℕ). sumOf (countAt w R n (z .depth)) m (z .hi - 1)) e ∙ ap (λ (m : ℕ). m + 0) (closes a l))
 
     -- a node's slots share out its stretch
     module _ (k : ℕ) (x : Stretch) (t : Stands w s R n (suc k) x) where
@@ -138,7 +138,7 @@ module _ (w s : ℕ) (R : ℕ → Route) (n : ℕ) where
       startAt j = start w deep (t .bitsAt * 2 ^ s + j)
 
       abbrev count : ℕ → ℕ
-      count i = nodesAt w R n s k deep i
+      count i = countBelow w R n s k deep i
 
       start-next : (j : ℕ) → startAt (j + 1) ≡ startAt j + span w deep
       start-next j =
@@ -213,9 +213,9 @@ module _ (w s : ℕ) (R : ℕ → Route) (n : ℕ) where
           by true g =
               let b = both (ltb (z j l .lo) (z j l .hi)) (ltb (z j l .depth) (R (z j l .hi - 1) .len)) g in
               let o = one-node (z j l) (t .bitsAt * 2 ^ s + j) (p j l) (ltb-true (z j l .lo) (z j l .hi) (b .0)) (ltb-true (z j l .depth) (R (z j l .hi - 1) .len) (b .1)) in
-              ap₂ (λ (a d : ℕ). sumOf (nodesAt w R n s a d) (z j l .hi - z j l .lo) (z j l .lo)) e (sym (in-x j l .2))
+              ap₂ (λ (a d : ℕ). sumOf (countBelow w R n s a d) (z j l .hi - z j l .lo) (z j l .lo)) e (sym (in-x j l .2))
               ∙ nodes-suc m (z j l .depth) (z j l .hi - z j l .lo) (z j l .lo)
-              ∙ ap (λ (a : ℕ). a + sumOf (nodesAt w R n s m (z j l .depth + s)) (z j l .hi - z j l .lo) (z j l .lo)) o
+              ∙ ap (λ (a : ℕ). a + sumOf (countBelow w R n s m (z j l .depth + s)) (z j l .hi - z j l .lo) (z j l .lo)) o
               ∙ sym (ap (λ (o : Slot Stretch). total (size m) (slotChildren o)) (slot-on w s R n ok k x t j l g)
               ∙ add-zero (size m (z j l)))
           by false g =
@@ -304,7 +304,7 @@ module _ (w s : ℕ) (R : ℕ → Route) (n : ℕ) where
         ap (λ (k : ℕ). length (levels slots k (rootOf n ∷ []))) (sym e)
         ∙ levels-sum (w / s - 1) (rootOf n ∷ []) (r, tt)
         ∙ add-zero (size (w / s - 1) (rootOf n))
-        ∙ ap₂ (λ (l m : ℕ). 1 + sumOf (nodesAt w R n s (w / s - 1) l) m 0) (zero-add s) (omega arith)
+        ∙ ap₂ (λ (l m : ℕ). 1 + sumOf (countBelow w R n s (w / s - 1) l) m 0) (zero-add s) (omega arith)
 
 pub count-is : CountIs
 count-is w s R n st ok = sym (count-stretches w s R n ok st) ∙ length-stretches w s R n ok st

@@ -1,10 +1,13 @@
 -- Laws of the stretches and of the builder's memory.
-pub mod Search
+pub mod FirstAndLast
+pub mod SearchTests
+pub mod Bounds
 pub mod Places
 pub mod Alikes
 pub mod Trees
 pub mod Counting
-pub mod Filling
-pub mod Turned
-pub mod Running
-pub mod Readied
+pub mod SlotLoop
+pub mod QueueStep
+pub mod QueueLoop
+pub mod Room
+pub mod Unique

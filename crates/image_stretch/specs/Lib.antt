@@ -2,4 +2,5 @@
 pub mod Stretches
 pub mod Count
 pub mod Memory
+pub mod Needs
 pub mod Theorems

@@ -38,14 +38,26 @@ standsBefore R v l i = precedes (R i .value) (R i .len) v l
 abbrev pub under : ℕ → (ℕ → Route) → ℕ → ℕ → ℕ → Bool
 under w R v l i = matches w v l (R i .value)
 
--- where the routes that begin with the bits of v/l start, and where they end, within a stretch that has them all
+-- where the routes that begin with the bits of v/l start, and where they end, within a stretch that has them all; the search for them
+-- starts at a route before which none of them is
+abbrev pub fromAt : (ℕ → Route) → Stretch → ℕ → ℕ → ℕ → ℕ
+fromAt R x at v l = past (standsBefore R v l) (x .hi - at) at
+
+abbrev pub toAt : ℕ → (ℕ → Route) → Stretch → ℕ → ℕ → ℕ → ℕ
+toAt w R x at v l = past (under w R v l) (x .hi - fromAt R x at v l) (fromAt R x at v l)
+
 abbrev pub fromOf : (ℕ → Route) → Stretch → ℕ → ℕ → ℕ
-fromOf R x v l = past (standsBefore R v l) (x .hi - x .lo) (x .lo)
+fromOf R x v l = fromAt R x (x .lo) v l
 
 abbrev pub toOf : ℕ → (ℕ → Route) → Stretch → ℕ → ℕ → ℕ
-toOf w R x v l = past (under w R v l) (x .hi - fromOf R x v l) (fromOf R x v l)
+toOf w R x v l = toAt w R x (x .lo) v l
 
--- the stretch of the slot with the bits of v/l, with the port that it inherits
+-- the stretch of the slot with the bits of v/l, with the port that it inherits: the search started at route `at`, and at the first of
+-- the node's routes
+unfoldable pub slotStretchAt : ℕ → (ℕ → Route) → Stretch → ℕ → ℕ → ℕ → Stretch
+slotStretchAt w R x at v l =
+    stretch (fromAt R x at v l) (toAt w R x at v l) l (lastFrom w R v (x .best) (x .lo) (fromAt R x at v l - x .lo))
+
 unfoldable pub slotStretch : ℕ → (ℕ → Route) → Stretch → ℕ → ℕ → Stretch
 slotStretch w R x v l =
     stretch (fromOf R x v l) (toOf w R x v l) l (lastFrom w R v (x .best) (x .lo) (fromOf R x v l - x .lo))

@@ -1,5 +1,13 @@
-// A node of the image as a stretch of the sorted route list, and the memory of a builder whose queue is the nodes lent:
-// definitions and laws, and the types that the builder's code and these definitions share.
+// A node of the image as a stretch of the sorted route list, the search for the stretches of its slots, and the memory of a builder
+// whose queue is the nodes lent.
+
+use image_nodes::Leaf;
+use image_nodes::Node;
+
+pub mod search;
+
+// What half a word holds: the depth of a node still to do, and its port.
+pub const HALF_WORD: u32 = 65536;
 
 // A node still to do: the routes lo..hi of the list are those that begin with its bits; best is the port that it inherits.
 pub struct Stretch {
@@ -9,15 +17,15 @@ pub struct Stretch {
     pub best: u32,
 }
 
-// A node's slots so far: its bitmap, and how many nodes and ports are then in use.
+// A node's slots so far: its bitmap, and the first node and the first leaf that are then not in use.
 pub struct Filled {
     pub bitmap: u32,
-    pub nodes: usize,
-    pub ports: usize,
+    pub node: Node,
+    pub leaf: Leaf,
 }
 
-// How many nodes and ports are in use.
-pub struct Used {
-    pub nodes: usize,
-    pub ports: usize,
+// The first node and the first leaf that are not in use.
+pub struct Free {
+    pub node: Node,
+    pub leaf: Leaf,
 }

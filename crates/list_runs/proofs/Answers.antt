@@ -1,11 +1,11 @@
--- The answers of a listing: rules, "Listing: list checks or 11, then 13, then 9". Assumes nothing.
+-- The answers of a listing: RULES, "Order of the checks". Assumes nothing.
 use mathlib.Core.Path.{_≡_, sym, ap, ap₂, _∙_}
 use mathlib.Core.Bool.{true, false, false≢true}
 use mathlib.Core.List.{List}
 use Prim.Native.Nat.{ℕ, _/_, _≤_, _<_}
 use native.Mathlib.Omega.{arith}
 use lib.ListN.{length}
-use borrow.Author.Tests.{eq-eqb, ne-eqb, le-leb, lt-leb}
+use borrow.Author.Tests.{le-leb, lt-leb}
 use Rattle.promise.specs.Over.{Outcome, outcome, over}
 use Rattle.routes.specs.Refusals.{noRoom, tooManyRuns, refused, accepted}
 use Rattle.routes.specs.Routes.{routeAt, routeCount, ValidList, Words}
@@ -13,13 +13,14 @@ use Rattle.routes.specs.Check.{listCheck}
 use Rattle.routes.specs.declared.Route.{Route}
 use Rattle.routes.specs.declared.Answer.{Answer}
 use Rattle.routes.proofs.Check.{accepted-valid}
-use Rattle.runs_rules.specs.Runs.{Run, runWords}
+use Rattle.runs_rules.specs.Runs.{Run, runSize, runWords}
 use Rattle.runs_rules.specs.Listing.{listed, mostRuns, writeRuns, listRuns}
-use Rattle.list_runs.specs.Sweep.{Ready, Swept}
+use Rattle.runs_rules.proofs.Listing.{list-runs-accepted, list-runs-refused}
+use Rattle.list_runs.specs.Needs.{Sweepable, Swept}
 
 -- the first sweep counts, and asks no room
-pub ready-to-count : {R : ℕ → Route} {n : ℕ} (lent : List ℕ) → ValidList 32 R n → Ready R n lent false
-ready-to-count lent ok = record { valid = ok; room = λ t. absurd (false≢true t) }
+pub sweepable-to-count : {w : ℕ} {R : ℕ → Route} {n : ℕ} (lent : List ℕ) → ValidList w R n → Sweepable w R n lent false
+sweepable-to-count lent ok = record { valid = ok; room = λ t. absurd (false≢true t) }
 
 -- what it counted, in memory that it left as it was
 module _ {rs : List Run} {count : ℕ} {lent left : List ℕ} (s : Swept rs false count lent left) where
@@ -31,32 +32,28 @@ module _ {rs : List Run} {count : ℕ} {lent left : List ℕ} (s : Swept rs fals
   write-runs-many {a} is h =
       outcome-left a ∙ ap (λ (x : Answer). outcome x lent) is ∙ simp (lt-leb (length rs) mostRuns (omega (arith, s .counted)))
 
-  pub write-runs-short : {a : Answer} → a ≡ refused noRoom 0 → count ≤ mostRuns → length left / 3 < count → outcome a left ≡ writeRuns rs lent
+  pub write-runs-short : {a : Answer} → a ≡ refused noRoom 0 → count ≤ mostRuns → length left / runSize < count → outcome a left ≡ writeRuns rs lent
   unfolding writeRuns
   write-runs-short {a} is h l =
       outcome-left a ∙ ap (λ (x : Answer). outcome x lent) is
-      ∙ simp (le-leb (length rs) mostRuns (omega (arith, s .counted)), lt-leb (length rs) (length lent / 3) (omega (arith, s .counted, ap length (s .written))))
+      ∙ simp (le-leb (length rs) mostRuns (omega (arith, s .counted)), lt-leb (length rs) (length lent / runSize) (omega (arith, s .counted, ap length (s .written))))
 
-  pub write-runs-done : {a : Answer} {count′ : ℕ} {done : List ℕ} → a ≡ accepted count → count ≤ mostRuns → count ≤ length left / 3
+  pub write-runs-done : {a : Answer} {count′ : ℕ} {done : List ℕ} → a ≡ accepted count → count ≤ mostRuns → count ≤ length left / runSize
       → Swept rs true count′ left done → outcome a done ≡ writeRuns rs lent
   unfolding writeRuns
   write-runs-done {a} {count′} {done} is h l t =
       ap₂ (λ (x : Answer) (ws : List ℕ). outcome x ws) (is ∙ ap accepted (s .counted)) (t .written ∙ ap (over (runWords rs)) (s .written))
-      ∙ simp (le-leb (length rs) mostRuns (omega (arith, s .counted)), le-leb (length rs) (length lent / 3) (omega (arith, s .counted, ap length (s .written))))
+      ∙ simp (le-leb (length rs) mostRuns (omega (arith, s .counted)), le-leb (length rs) (length lent / runSize) (omega (arith, s .counted, ap length (s .written))))
 
 -- a list, after its check
 module _ (w : ℕ) (list : List ℕ) {checked : Answer} (is : checked ≡ listCheck w list) where
-  pub list-runs-refused : (lent : List ℕ) → (checked .number ≡ 0 → ⊥) → outcome checked lent ≡ listRuns w list lent
-  unfolding listRuns
-  list-runs-refused lent n =
-      ap (λ (x : Answer). outcome x lent) is
-      ∙ simp (ne-eqb (listCheck w list .number) 0 (λ z. n (ap (λ (x : Answer). x .number) is ∙ z)))
+  pub list-runs-checked : (lent : List ℕ) → (checked .number ≡ 0 → ⊥) → outcome checked lent ≡ listRuns w list lent
+  list-runs-checked lent n =
+      ap (λ (x : Answer). outcome x lent) is ∙ sym (list-runs-refused w list lent (λ z. n (ap (λ (x : Answer). x .number) is ∙ z)))
 
   pub list-runs-valid : Words w list → checked .number ≡ 0 → ValidList w (routeAt list) (routeCount list)
   list-runs-valid fits z = accepted-valid w list fits (ap (λ (x : Answer). x .number) (sym is) ∙ z)
 
-  pub list-runs-accepted : (lent : List ℕ) → checked .number ≡ 0 → {o : Outcome Answer}
+  pub list-runs-listed : (lent : List ℕ) → checked .number ≡ 0 → {o : Outcome Answer}
       → o ≡ writeRuns (listed w (routeAt list) (routeCount list)) lent → o ≡ listRuns w list lent
-  unfolding listRuns
-  list-runs-accepted lent z e =
-      e ∙ simp (eq-eqb (listCheck w list .number) 0 (ap (λ (x : Answer). x .number) (sym is) ∙ z))
+  list-runs-listed lent z e = e ∙ sym (list-runs-accepted w list lent (ap (λ (x : Answer). x .number) (sym is) ∙ z))

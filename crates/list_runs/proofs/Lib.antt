@@ -1,6 +1,7 @@
 -- Laws of the sweep and of the listing's answers.
 pub mod Open
-pub mod Turns
+pub mod Stretches
 pub mod Answers
 pub mod Unique
 pub mod Writing
+pub mod Joining

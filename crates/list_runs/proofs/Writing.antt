@@ -9,10 +9,11 @@ use lib.ListN.{length, take, drop, length-drop, take-append-drop}
 use lib.Seq.{drop-drop, take-add, length-take-le}
 use Rattle.promise.specs.Over.{over, storeThree}
 use Rattle.promise.proofs.Over.{over-three}
-use Rattle.runs_rules.specs.Runs.{Run, run, runsFrom, runs, runWords}
+use Rattle.runs_rules.specs.Runs.{Run, run, runsFrom, runs, runSize, runWords}
+use Rattle.runs_rules.specs.Listing.{mostRuns}
 use Rattle.runs_rules.proofs.Runs.{runs-from-to, runs-from-same, runs-from-other, runs-from-all}
 use Rattle.runs_rules.proofs.Listing.{length-run-words}
-use Rattle.list_runs.specs.Sweep.{Swept}
+use Rattle.list_runs.specs.Needs.{RoomFor, Ended, Swept}
 
 -- one run more of a listing, where what is left is known
 module _ (rs rest : List Run) (r : Run) (k : ℕ) (e : drop k rs ≡ r ∷ rest) where
@@ -39,36 +40,39 @@ leftAfter rs write k lent = cond write (over (runWords (take k rs)) lent) lent
 
 -- the next run's words
 left-after-put : (rs rest : List Run) (write : Bool) (k first last port : ℕ) (lent : List ℕ)
-    → drop k rs ≡ run first last port ∷ rest → (write ≡ true → length rs * 3 ≤ length lent)
-    → cond write (storeThree (leftAfter rs write k lent) (k * 3) first last port) (leftAfter rs write k lent) ≡ leftAfter rs write (k + 1) lent
+    → drop k rs ≡ run first last port ∷ rest → (write ≡ true → length rs * runSize ≤ length lent)
+    → cond write (storeThree (leftAfter rs write k lent) (k * runSize) first last port) (leftAfter rs write k lent) ≡ leftAfter rs write (k + 1) lent
 left-after-put rs rest false k first last port lent e room = refl
 left-after-put rs rest true k first last port lent e room =
     let n = length-next rs rest (run first last port) k e in
-    over-three (runWords (take k rs)) lent first last port (k * 3)
-    (length-run-words (take k rs) ∙ ap (λ (j : ℕ). j * 3) (length-before rs rest (run first last port) k e))
+    over-three (runWords (take k rs)) lent first last port (k * runSize)
+    (length-run-words (take k rs) ∙ ap (λ (j : ℕ). j * runSize) (length-before rs rest (run first last port) k e))
     (omega (arith, n, room refl))
     ∙ ap (λ (ws : List ℕ). over ws lent)
     (sym (run-words-append (take k rs) (run first last port ∷ [])) ∙ ap runWords (sym (take-next rs rest (run first last port) k e)))
 
 module _ (f : ℕ → ℕ) (m : ℕ) where
-  -- k runs are counted, and the next is open since its first address, with its port if it has an address before the present one
-  pub record Counted (lent : List ℕ) (write : Bool) (left : List ℕ) (first at port k : ℕ) : Type 0 where
-    pub first-le : first ≤ at
-    pub first-lt : first < m
-    pub few : k ≤ first
-    pub port-is : first < at → port ≡ f first
-    pub rest : drop k (runs f m) ≡ runsFrom f first at (m - at)
+  -- k runs are counted, and the next is open from its first address up to the last one seen, with its port
+  pub record Counted (lent : List ℕ) (write : Bool) (left : List ℕ) (first last port k : ℕ) : Type 0 where
+    pub first-le : first ≤ last
+    pub within : last < m
+    pub port-is : port ≡ f first
+    pub rest : drop k (runs f m) ≡ runsFrom f first (last + 1) (m - (last + 1))
     pub same : length left ≡ length lent
     pub written : left ≡ leftAfter (runs f m) write k lent
 
-  pub counted-none : (lent : List ℕ) (write : Bool) → 0 < m → Counted lent write lent 0 0 0 0
+  -- the first stretch
+  pub counted-none : (lent : List ℕ) (write : Bool) (last port : ℕ) → last < m → ((x : ℕ) → 0 ≤ x → x ≤ last → f x ≡ port)
+      → Counted lent write lent 0 last port 0
   unfolding runs
-  counted-none lent write h = record {
+  counted-none lent write last port h one = record {
     first-le = omega arith;
-    first-lt = h;
-    few = omega arith;
-    port-is = λ l. absurd (omega arith);
-    rest = ap (λ (j : ℕ). runsFrom f 0 0 j) (sym (sub-zero m));
+    within = h;
+    port-is = sym (one 0 (omega arith) (omega arith));
+    rest =
+        ap (λ (j : ℕ). runsFrom f 0 0 j) (sym (sub-zero m))
+        ∙ runs-from-to f m 0 0 (last + 1) (omega arith) (omega arith)
+        (λ x u v. one x u (omega arith) ∙ sym (one 0 (omega arith) (omega arith)));
     same = refl;
     written = nothing write;
   }
@@ -77,71 +81,83 @@ module _ (f : ℕ → ℕ) (m : ℕ) where
       nothing true = refl
       nothing false = refl
 
-  module _ {lent left : List ℕ} {write : Bool} {first at port k : ℕ} (c : Counted lent write left first at port k) where
-    -- the open run goes on to an address
-    pub counted-on : (to here : ℕ) → at < to → to ≤ m → ((x : ℕ) → at ≤ x → x < to → f x ≡ here) → here ≡ f first
-        → Counted lent write left first to here k
-    counted-on to here h l one e = record {
-      first-le = omega (arith, c .first-le);
-      first-lt = c .first-lt;
-      few = c .few;
-      port-is = λ j. e;
-      rest = c .rest ∙ runs-from-to f m first at to (omega arith) l (λ x u v. one x u v ∙ e);
-      same = c .same;
-      written = c .written;
-    }
+  module _ {lent left : List ℕ} {write : Bool} {first last port k : ℕ} (c : Counted lent write left first last port k) where
+    -- the next run is written where that is asked
+    written-next : {rest : List Run} → drop k (runs f m) ≡ run first last port ∷ rest
+        → (write ≡ true → length (runs f m) * runSize ≤ length lent) → {next : ℕ} {left′ : List ℕ}
+        → Ended left write k first last port next left′ → left′ ≡ leftAfter (runs f m) write (k + 1) lent
+    written-next {rest} e room put =
+        put .written ∙ ap (λ (ws : List ℕ). cond write (storeThree ws (k * runSize) first last port) ws) (c .written)
+        ∙ left-after-put (runs f m) rest write k first last port lent e room
 
-    -- it ends here, where the port is another
-    pub run-ends : (here : ℕ) → first < at → at < m → f at ≡ here → (here ≡ port → ⊥)
-        → drop k (runs f m) ≡ run first (at - 1) port ∷ runsFrom f at at (m - at)
-    run-ends here h l e ne =
-        let z : m - at ≡ suc (m - (at + 1)) = omega arith in
-        let p = c .port-is h in
-        c .rest ∙ ap (λ (j : ℕ). runsFrom f first at j) z
-        ∙ runs-from-other f first at (m - (at + 1)) (λ x. ne (sym e ∙ x ∙ sym p))
-        ∙ ap₂ (λ (q : ℕ) (rs : List Run). run first (at - 1) q ∷ rs) (sym p)
-        (sym (ap (λ (j : ℕ). runsFrom f at at j) z ∙ runs-from-same f at at (m - (at + 1)) refl))
+    -- the next stretch
+    module _ (at to here : ℕ) (at-is : at ≡ last + 1) (some : at ≤ to) (within : to < m)
+        (one : (x : ℕ) → at ≤ x → x ≤ to → f x ≡ here) where
+      -- has the same port: the open run goes on
+      pub counted-on : here ≡ port → Counted lent write left first to here k
+      counted-on e = record {
+        first-le = omega (arith, c .first-le);
+        within = within;
+        port-is = e ∙ c .port-is;
+        rest =
+            c .rest
+            ∙ runs-from-to f m first (last + 1) (to + 1) (omega (arith, at-is)) (omega arith)
+            (λ x u v. one x (omega (arith, at-is)) (omega arith) ∙ e ∙ c .port-is);
+        same = c .same;
+        written = c .written;
+      }
 
-    -- it is the last
-    pub run-last : at ≡ m → drop k (runs f m) ≡ run first (at - 1) port ∷ []
+      -- has another: the open run ends before it
+      pub run-ends : (here ≡ port → ⊥) → drop k (runs f m) ≡ run first last port ∷ runsFrom f at (to + 1) (m - (to + 1))
+      run-ends ne =
+          let z : m - (last + 1) ≡ suc (m - (at + 1)) = omega (arith, at-is) in
+          let y : last + 1 - 1 ≡ last = omega arith in
+          c .rest
+          ∙ ap₂ (λ (j i : ℕ). runsFrom f first j i) (sym at-is) z
+          ∙ runs-from-other f first at (m - (at + 1))
+          (λ x. ne (sym (one at (omega arith) some) ∙ x ∙ sym (c .port-is)))
+          ∙ ap₂ (λ (l q : ℕ). run first l q ∷ runsFrom f at (at + 1) (m - (at + 1))) (ap (λ (j : ℕ). j - 1) at-is ∙ y) (sym (c .port-is))
+          ∙ ap (λ (rs : List Run). run first last port ∷ rs)
+          (runs-from-to f m at (at + 1) (to + 1) (omega arith) (omega arith)
+          (λ x u v. one x (omega arith) (omega arith) ∙ sym (one at (omega arith) some)))
+
+      -- which is then counted, and the next is open
+      pub counted-ended : (here ≡ port → ⊥) → (write ≡ true → length (runs f m) * runSize ≤ length lent) → {next : ℕ} {left′ : List ℕ}
+          → Ended left write k first last port next left′ → length left′ ≡ length left → Counted lent write left′ at to here next
+      counted-ended ne room {next} {left′} put s = rw (put .next-is) (record {
+        first-le = some;
+        within = within;
+        port-is = sym (one at (omega arith) some);
+        rest = drop-next (runs f m) (runsFrom f at (to + 1) (m - (to + 1))) (run first last port) k (run-ends ne);
+        same = s ∙ c .same;
+        written = written-next (run-ends ne) room put;
+      })
+
+    -- the open run is the last
+    pub run-last : last + 1 ≡ m → drop k (runs f m) ≡ run first last port ∷ []
     run-last e =
-        c .rest ∙ runs-from-all f first at (m - at) (omega arith)
-        ∙ ap (λ (q : ℕ). run first (at - 1) q ∷ []) (sym (c .port-is (omega (arith, c .first-lt))))
+        let y : last + 1 - 1 ≡ last = omega arith in
+        c .rest ∙ runs-from-all f first (last + 1) (m - (last + 1)) (omega arith)
+        ∙ ap₂ (λ (l q : ℕ). run first l q ∷ []) y (sym (c .port-is))
 
     -- where there is room for all runs, there is room for the next
-    pub room-next : {r : Run} {rest : List Run} → drop k (runs f m) ≡ r ∷ rest → (write ≡ true → length (runs f m) * 3 ≤ length lent)
-        → write ≡ true → k * 3 + 3 ≤ length left
-    room-next {r} {rest} e room t = omega (arith, length-next (runs f m) rest r k e, room t, c .same)
+    pub room-next : {r : Run} {rest : List Run} → drop k (runs f m) ≡ r ∷ rest → length (runs f m) ≤ mostRuns
+        → (write ≡ true → length (runs f m) * runSize ≤ length lent) → RoomFor left write k
+    room-next {r} {rest} e most room = record {
+      few = omega (arith, length-next (runs f m) rest r k e, most);
+      room = λ t. omega (arith, length-next (runs f m) rest r k e, room t, c .same);
+    }
 
-    -- the run is counted, and written where that is asked
-    module _ {last : ℕ} {rest : List Run} (e : drop k (runs f m) ≡ run first last port ∷ rest)
-        (room : write ≡ true → length (runs f m) * 3 ≤ length lent) {left′ : List ℕ}
-        (put : left′ ≡ cond write (storeThree left (k * 3) first last port) left) where
-      written-next : left′ ≡ leftAfter (runs f m) write (k + 1) lent
-      written-next =
-          put ∙ ap (λ (ws : List ℕ). cond write (storeThree ws (k * 3) first last port) ws) (c .written)
-          ∙ left-after-put (runs f m) rest write k first last port lent e room
-
-      pub counted-ended : (here : ℕ) → first < at → at < m → rest ≡ runsFrom f at at (m - at) → length left′ ≡ length left
-          → Counted lent write left′ at at port (k + 1)
-      counted-ended here h l is s = record {
-        first-le = omega arith;
-        first-lt = l;
-        few = omega (arith, c .few);
-        port-is = λ j. absurd (omega arith);
-        rest = drop-next (runs f m) rest (run first last port) k e ∙ is;
-        same = s ∙ c .same;
-        written = written-next;
-      }
-
-      pub counted-all : (next : ℕ) → next ≡ k + 1 → rest ≡ [] → Swept (runs f m) write next lent left′
-      counted-all next is none = record {
-        counted = is ∙ omega (arith, length-next (runs f m) rest (run first last port) k e, ap length none);
-        written = written-next ∙ ap (λ (rs : List Run). cond write (over (runWords rs) lent) lent) all;
-      }
-        where
-          all : take (k + 1) (runs f m) ≡ runs f m
-          all =
-              take-next (runs f m) rest (run first last port) k e
-              ∙ ap (λ (rs : List Run). take k (runs f m) ++ rs) (sym (e ∙ ap (λ (rs : List Run). run first last port ∷ rs) none))
-              ∙ take-append-drop k (runs f m)
+    -- all are counted
+    pub counted-all : last + 1 ≡ m → (write ≡ true → length (runs f m) * runSize ≤ length lent) → {next : ℕ} {left′ : List ℕ}
+        → Ended left write k first last port next left′ → Swept (runs f m) write next lent left′
+    counted-all full room put = record {
+      counted = put .next-is ∙ omega (arith, length-next (runs f m) [] (run first last port) k (run-last full));
+      written = written-next (run-last full) room put ∙ ap (λ (rs : List Run). cond write (over (runWords rs) lent) lent) all;
+    }
+      where
+        all : take (k + 1) (runs f m) ≡ runs f m
+        all =
+            take-next (runs f m) [] (run first last port) k (run-last full)
+            ∙ ap (λ (rs : List Run). take k (runs f m) ++ rs) (sym (run-last full))
+            ∙ take-append-drop k (runs f m)

@@ -1,2 +1,3 @@
--- What the sweep reads and leaves.
+-- What the sweep reads, and what its functions ask of each other.
 pub mod Sweep
+pub mod Needs

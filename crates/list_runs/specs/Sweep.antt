@@ -1,23 +1,20 @@
--- Defines what the sweep over the addresses reads, and what it counts and leaves: rules, "The run listing". Assumes nothing.
-use mathlib.Core.Path.{_≡_}
-use mathlib.Core.Bool.{Bool, true, cond}
+-- Defines what the sweep over the addresses reads: the ends and the port of a route, and the routes that are open on the stack.
+-- RULES, "The run listing". Assumes nothing.
+use mathlib.Core.Bool.{cond}
 use mathlib.Core.List.{List}
-use Prim.Native.Nat.{ℕ, _+_, _-_, _*_, _^_, _≤_}
-use lib.Dec.{eqb, ltb}
-use lib.ListN.{length, getD}
-use Rattle.promise.specs.Over.{over}
+use Prim.Native.Nat.{ℕ, zero, suc, _-_, _^_}
+use lib.Dec.{eqb, leb, ltb}
+use lib.ListN.{getD}
 use Rattle.bits.specs.Prefix.{first, last}
-use Rattle.routes.specs.Routes.{ValidList}
 use Rattle.routes.specs.declared.Route.{Route}
-use Rattle.runs_rules.specs.Runs.{Run, runWords}
-use Rattle.runs_rules.specs.Listing.{listed}
 
--- where route k begins, and the address after its last; past the n routes, the end of the addresses
-unfoldable pub startOf : ℕ → (ℕ → Route) → ℕ → ℕ → ℕ
-startOf w R n k = cond (ltb k n) (first w (R k .value) (R k .len)) (2 ^ w)
+-- where route k begins
+abbrev pub firstOf : ℕ → (ℕ → Route) → ℕ → ℕ
+firstOf w R k = first w (R k .value) (R k .len)
 
-unfoldable pub endOf : ℕ → (ℕ → Route) → ℕ → ℕ → ℕ
-endOf w R n k = cond (ltb k n) (last w (R k .value) (R k .len) + 1) (2 ^ w)
+-- its last address; past the n routes, the last of all
+unfoldable pub lastOf : ℕ → (ℕ → Route) → ℕ → ℕ → ℕ
+lastOf w R n k = cond (ltb k n) (last w (R k .value) (R k .len)) (2 ^ w - 1)
 
 -- its port; past the n routes, none
 unfoldable pub portAt : (ℕ → Route) → ℕ → ℕ → ℕ
@@ -27,15 +24,8 @@ portAt R n k = cond (ltb k n) (R k .port) 0
 unfoldable pub topOf : List ℕ → ℕ → ℕ → ℕ
 topOf stack depth n = cond (eqb depth 0) n (getD stack (depth - 1) 0)
 
-abbrev pub lesser : ℕ → ℕ → ℕ
-lesser a b = cond (ltb a b) a b
-
--- what the sweep may count on: a valid list, and room for all runs where it writes
-pub record Ready (R : ℕ → Route) (n : ℕ) (lent : List ℕ) (write : Bool) : Type 0 where
-  pub valid : ValidList 32 R n
-  pub room : write ≡ true → length (listed 32 R n) * 3 ≤ length lent
-
--- the runs are counted, and written where that is asked; the rest of the lent memory is as it was
-pub record Swept (rs : List Run) (write : Bool) (count : ℕ) (lent left : List ℕ) : Type 0 where
-  pub counted : count ≡ length rs
-  pub written : left ≡ cond write (over (runWords rs) lent) lent
+-- the port that the open routes give an address, innermost first
+unfoldable pub look : ℕ → (ℕ → Route) → List ℕ → ℕ → ℕ → ℕ
+look w R stack zero a = 0
+look w R stack (suc d) a =
+    cond (leb a (last w (R (getD stack d 0) .value) (R (getD stack d 0) .len))) (R (getD stack d 0) .port) (look w R stack d a)

@@ -1,51 +1,60 @@
 // The run listing of a route list: one sweep over the addresses, with the routes that are open at the present one on a stack.
 ghost use mathlib.Core.Path.{_≡_};
-ghost use mathlib.Core.Bool.{true, cond};
-ghost use Prim.Native.Nat.{_+_, _*_, _^_, _≤_, _<_};
-ghost use lib.ListN.{length};
-ghost use Rattle.promise.specs.Over.{outcome, storeThree};
+ghost use Prim.Native.Nat.{_≤_};
+ghost use Rattle.promise.specs.Over.{outcome};
+ghost use Rattle.prefix.specs.Prefixes.{prefix};
 ghost use Rattle.routes.specs.Routes.{routeAt, ValidList};
 ghost use Rattle.runs_rules.specs.Listing.{listed, writeRuns, listRuns};
-ghost use Rattle.list_runs.specs.Sweep.{startOf, endOf, portAt, topOf, lesser, Ready, Swept};
+ghost use Rattle.list_runs.specs.Sweep.{firstOf, lastOf, portAt, topOf};
+ghost use Rattle.list_runs.specs.Needs.{Open, Stretched, RoomFor, Ended, Sweepable, Swept};
 use prefix::Prefix;
 use routes::Answer;
+use routes::ROUTE_SIZE;
 use routes::check_list;
 use routes::refusal::NO_ROOM;
 use routes::refusal::TOO_MANY_RUNS;
 use routes::route_at;
 
-// "13 | more than 8,193 runs"
+// The words of a run in a listing: first address, last address, port.
+pub const RUN_SIZE: usize = 3;
+
+// Refusal 13 is for more runs than these.
 const MOST_RUNS: usize = 8193;
 
-// How many addresses there are.
-const ADDRESSES: u64 = 4294967296;
+// The last of all addresses.
+const LAST_ADDRESS: u32 = 4294967295;
 
-fn wide(address: u32) -> u64
-    ensures { λ r. ⌜ (r ≡ address) × (r < 2 ^ 32) ⌝ }
-{
-    address as u64
+// From an address on: the last address up to which the port stays, both included, and that port; which routes are then open,
+// and the next.
+struct Stretch {
+    last: u32,
+    port: u32,
+    depth: usize,
+    next: usize,
 }
 
-// The first address of route k; past the n routes, the end of the addresses.
-fn start_of(list: &[u32], n: usize, k: usize) -> u64
-    ensures { λ r. ⌜ r ≡ startOf 32 (routeAt (now (list .entry))) n k ⌝ }
+// The prefix of route k.
+fn prefix_of(list: &[u32], k: usize) -> Prefix
+    ensures { λ r. ⌜ r ≡ prefix (routeAt (now (list .entry)) k .value) (routeAt (now (list .entry)) k .len) ⌝ }
 {
-    if k < n {
-        let route = route_at(list, k);
-        return wide(Prefix::new(route.value, route.len).first());
-    }
-    ADDRESSES
+    route_at(list, k).prefix()
 }
 
-// The address after the last one of route k; past the n routes, the end of the addresses.
-fn end_of(list: &[u32], n: usize, k: usize) -> u64
-    ensures { λ r. ⌜ r ≡ endOf 32 (routeAt (now (list .entry))) n k ⌝ }
+// The first address of route k.
+fn first_of(list: &[u32], k: usize) -> u32
+    ensures { λ r. ⌜ r ≡ firstOf 32 (routeAt (now (list .entry))) k ⌝ }
+{
+    prefix_of(list, k).first()
+}
+
+// The last address of route k; past the n routes, the last of all.
+fn last_of(list: &[u32], n: usize, k: usize) -> u32
+    ensures { λ r. ⌜ r ≡ lastOf 32 (routeAt (now (list .entry))) n k ⌝ }
 {
     if k < n {
-        let route = route_at(list, k);
-        return wide(Prefix::new(route.value, route.len).last()) + 1;
+        return prefix_of(list, k).last();
     }
-    ADDRESSES
+    LAST_ADDRESS
 }
 
 // The port of route k; past the n routes, none.
@@ -69,24 +78,63 @@ fn top_of(stack: &[usize; 33], depth: usize, n: usize) -> usize
     stack[depth - 1]
 }
 
-fn lesser_of(a: u64, b: u64) -> u64
-    ensures { λ r. ⌜ r ≡ lesser a b ⌝ }
+// The stretch of addresses from `at` on that go to one port. Routes that have ended are closed, routes that begin are opened,
+// until both the end of the innermost and the next beginning lie ahead.
+fn stretch_from(
+    list: &[u32],
+    n: usize,
+    stack: &mut [usize; 33],
+    depth: usize,
+    next: usize,
+    at: u32,
+) -> Stretch
+    requires { ⌜ Open 32 (routeAt (now list)) n (now stack) depth next at ⌝ }
+    ensures { λ r. ⌜ Stretched 32 (routeAt (now (list .entry))) n at (now (stack .exit)) r ⌝ }
 {
-    if a < b {
-        return a;
+    let mut deep = depth;
+    let mut i = next;
+    let mut start = first_of(list, i);
+    loop {
+        let top = top_of(stack, deep, n);
+        let stop = last_of(list, n, top);
+        if stop < at {
+            deep -= 1;
+            continue;
+        }
+        if (i < n) & (start <= at) {
+            stack[deep] = i;
+            deep += 1;
+            i += 1;
+            start = first_of(list, i);
+            continue;
+        }
+        let port = port_of(list, n, top);
+        if (i < n) & (start <= stop) {
+            return Stretch {
+                last: start - 1,
+                port,
+                depth: deep,
+                next: i,
+            };
+        }
+        return Stretch {
+            last: stop,
+            port,
+            depth: deep,
+            next: i,
+        };
     }
-    b
 }
 
 // Writes run k where that is asked, and gives the number of the next.
-fn end_run(runs: &mut [u32], k: usize, first: u64, last: u64, port: u32, write: bool) -> usize
-    requires { ⌜ (first < 2 ^ 32) × (last < 2 ^ 32) × (k < 2 ^ 32) × (write ≡ true → k * 3 + 3 ≤ length (now runs)) ⌝ }
-    ensures { λ r. ⌜ (r ≡ k + 1) × (now (runs .exit) ≡ cond write (storeThree (now (runs .entry)) (k * 3) first last port) (now (runs .entry))) ⌝ }
+fn end_run(runs: &mut [u32], k: usize, first: u32, last: u32, port: u32, write: bool) -> usize
+    requires { ⌜ RoomFor (now runs) write k ⌝ }
+    ensures { λ r. ⌜ Ended (now (runs .entry)) write k first last port r (now (runs .exit)) ⌝ }
 {
     if write {
-        let at = k * 3;
-        runs[at] = first as u32;
-        runs[at + 1] = last as u32;
+        let at = k * RUN_SIZE;
+        runs[at] = first;
+        runs[at + 1] = last;
         runs[at + 2] = port;
         return k + 1;
     }
@@ -95,46 +143,31 @@ fn end_run(runs: &mut [u32], k: usize, first: u64, last: u64, port: u32, write: 
 
 // Counts the runs of the first n routes, and writes them where that is asked.
 fn sweep(list: &[u32], n: usize, runs: &mut [u32], write: bool) -> usize
-    requires { ⌜ Ready (routeAt (now list)) n (now runs) write ⌝ }
+    requires { ⌜ Sweepable 32 (routeAt (now list)) n (now runs) write ⌝ }
     ensures { λ r. ⌜ Swept (listed 32 (routeAt (now (list .entry))) n) write r (now (runs .entry)) (now (runs .exit)) ⌝ }
 {
     let mut stack = [0usize; 33];
-    let mut depth: usize = 0;
-    let mut i: usize = 0;
-    let mut first: u64 = 0;
-    let mut at: u64 = 0;
-    let mut port: u32 = 0;
+    let mut here = stretch_from(list, n, &mut stack, 0, 0, 0);
+    let mut first: u32 = 0;
     let mut count: usize = 0;
-    while at < ADDRESSES {
-        let top = top_of(&stack, depth, n);
-        let stop = end_of(list, n, top);
-        if stop <= at {
-            depth -= 1;
-            continue;
-        }
-        let next = start_of(list, n, i);
-        if next <= at {
-            stack[depth] = i;
-            depth += 1;
-            i += 1;
-            continue;
-        }
-        let here = port_of(list, n, top);
+    while here.last < LAST_ADDRESS {
+        let at = here.last + 1;
+        let ahead = stretch_from(list, n, &mut stack, here.depth, here.next, at);
         // Neighbours with one port join: a run goes on where the port stays.
-        if (first == at) | (here == port) {
-            port = here;
-            at = lesser_of(stop, next);
+        if ahead.port == here.port {
+            here = ahead;
             continue;
         }
-        count = end_run(runs, count, first, at - 1, port, write);
+        count = end_run(runs, count, first, here.last, here.port, write);
         first = at;
+        here = ahead;
     }
-    end_run(runs, count, first, at - 1, port, write)
+    end_run(runs, count, first, here.last, here.port, write)
 }
 
 // The runs of the first n routes of a list that is known to be valid. Refuses 13, more than 8,193 runs, and 9, no room for
 // them; else their words, and their number.
-pub fn write_runs(list: &[u32], n: usize, runs: &mut [u32]) -> Answer
+fn write_runs(list: &[u32], n: usize, runs: &mut [u32]) -> Answer
     requires { ⌜ ValidList 32 (routeAt (now list)) n ⌝ }
     ensures { λ r. ⌜ outcome r (now (runs .exit)) ≡ writeRuns (listed 32 (routeAt (now (list .entry))) n) (now (runs .entry)) ⌝ }
 {
@@ -142,7 +175,7 @@ pub fn write_runs(list: &[u32], n: usize, runs: &mut [u32]) -> Answer
     if MOST_RUNS < count {
         return Answer::refused(TOO_MANY_RUNS, 0);
     }
-    if runs.len() / 3 < count {
+    if runs.len() / RUN_SIZE < count {
         return Answer::refused(NO_ROOM, 0);
     }
     sweep(list, n, runs, true);
@@ -158,5 +191,5 @@ pub fn list_runs(list: &[u32], runs: &mut [u32]) -> Answer
     if checked.number != 0 {
         return checked;
     }
-    write_runs(list, list.len() / 3, runs)
+    write_runs(list, list.len() / ROUTE_SIZE, runs)
 }

@@ -4,3 +4,4 @@ pub mod Flat
 pub mod Numbered
 pub mod Sum
 pub mod Sets
+pub mod InOrder

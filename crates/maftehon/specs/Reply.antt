@@ -1,5 +1,5 @@
--- Defines what C gets for an answer of the library: rules, "A refusal returns its number and a place, all other results 0 (n as it
--- was; for a lookup the rows or nodes read so far)". The number is returned; the place and the results are stored. Assumes nothing.
+-- Defines what C gets for an answer of the library: RULES, "Calls" and "Refusals". The number is returned; the place and the results
+-- are stored. Assumes nothing.
 use mathlib.Core.List.{List, [], _∷_}
 use Prim.Native.Nat.{ℕ}
 use Rattle.promise.specs.Over.{Outcome, outcome}

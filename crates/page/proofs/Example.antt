@@ -1,4 +1,4 @@
--- The page of a file, case by case, and a line of the example: rules, "Program `runs`". Assumes nothing.
+-- The page of a file, case by case, and a line of the example: RULES, "Program runs". Assumes nothing.
 use mathlib.Core.Path.{_≡_, refl, sym, ap, _∙_}
 use mathlib.Core.Logic.{_⊎_, inl, inr}
 use mathlib.Core.Bool.{true, false}

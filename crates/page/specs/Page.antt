@@ -1,4 +1,4 @@
--- Defines the page that the program `runs` prints for a route file: rules, "Program `runs`". Assumes nothing.
+-- Defines the page that the program `runs` prints for a route file: RULES, "Program runs". Assumes nothing.
 use mathlib.Core.Bool.{cond}
 use mathlib.Core.List.{List, [], _∷_, _++_}
 use Prim.Native.Nat.{ℕ, _+_, _*_}
@@ -9,11 +9,11 @@ use Rattle.routes.specs.Refusals.{noRoom, refused}
 use Rattle.routes.specs.declared.Answer.{Answer}
 use Rattle.file_rules.specs.File.{fileRoute}
 use Rattle.file_rules.specs.Check.{fileCheck}
-use Rattle.runs_rules.specs.Runs.{Run, run}
+use Rattle.runs_rules.specs.Runs.{Run, run, runSize}
 use Rattle.runs_rules.specs.Listing.{listed}
 use Rattle.page.specs.Text.{newline, space, numeral, address}
 
--- "first address, last address, port"
+-- a line: "first address, last address, port"
 abbrev pub lineOf : Run → List ℕ
 lineOf r = address (r .first) ++ space ++ address (r .last) ++ space ++ numeral (r .port) ++ newline
 
@@ -21,19 +21,19 @@ abbrev pub linesOf : List Run → List ℕ
 linesOf [] = []
 linesOf (r ∷ rs) = lineOf r ++ linesOf rs
 
--- "a header with the run count, then first address, last address, port": `runs N`, and a line for each run
+-- "a line `runs` with the number of runs, then a line for each run"
 abbrev pub header : ℕ → List ℕ
 header n = (114 ∷ 117 ∷ 110 ∷ 115 ∷ 32 ∷ []) ++ numeral n ++ newline
 
 abbrev pub runsText : List Run → List ℕ
 runsText rs = header (length rs) ++ linesOf rs
 
--- "`refused`, number, place"
+-- "`refused`, the number and the place"
 abbrev pub refusedText : Answer → List ℕ
 refusedText a =
     (114 ∷ 101 ∷ 102 ∷ 117 ∷ 115 ∷ 101 ∷ 100 ∷ 32 ∷ []) ++ numeral (a .number) ++ space ++ numeral (a .place) ++ newline
 
--- "Over 1,797 bytes, or over 256 routes"
+-- "More than 1,797 bytes", "more than 256 routes"
 abbrev pub mostBytes : ℕ
 mostBytes = 1797
 
@@ -62,4 +62,4 @@ pageOf w file out =
 
 -- run i of a listing's words
 abbrev pub runAt : List ℕ → ℕ → Run
-runAt words i = run (getD words (i * 3) 0) (getD words (i * 3 + 1) 0) (getD words (i * 3 + 2) 0)
+runAt words i = run (getD words (i * runSize) 0) (getD words (i * runSize + 1) 0) (getD words (i * runSize + 2) 0)

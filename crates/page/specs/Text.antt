@@ -1,4 +1,4 @@
--- Defines numbers and addresses as text, byte by byte: rules, "Program `runs`". Assumes nothing.
+-- Defines numbers and addresses as text, byte by byte: RULES, "Program runs". Assumes nothing.
 use mathlib.Core.Bool.{cond}
 use mathlib.Core.List.{List, [], _∷_, _++_}
 use Prim.Native.Nat.{ℕ, zero, suc, _+_, _/_, _%_}

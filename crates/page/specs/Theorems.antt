@@ -1,4 +1,4 @@
--- States what this layer is there for: rules, "Program `runs`". Proofs are in proofs/. Assumes nothing.
+-- States what this layer is there for: RULES, "Program runs". Proofs are in proofs/. Assumes nothing.
 use mathlib.Core.Path.{_≡_}
 use mathlib.Core.List.{List, [], _∷_, _++_}
 use Prim.Native.Nat.{ℕ, _*_, _+_, _-_, _^_, _≤_, _<_}
@@ -13,22 +13,22 @@ use Rattle.routes.specs.Scan.{scanOf}
 use Rattle.page.specs.Text.{address}
 use Rattle.page.specs.Page.{lineOf, runsText, refusedText, mostBytes, mostRoutesShown, pageText, pageOf}
 
--- "Over 1,797 bytes ... it prints `refused 9 0`", whatever the bytes are
+-- "More than 1,797 bytes: `refused 9 0`", whatever the bytes are
 abbrev pub PageLong : Type 0
 PageLong = (w : ℕ) (file : List ℕ) → mostBytes < length file → pageText w file ≡ refusedText (refused noRoom 0)
 
--- "or over 256 routes in a file otherwise valid"
+-- "A valid file of more than 256 routes: `refused 9 0`"
 abbrev pub PageMany : Type 0
 PageMany =
     (w : ℕ) (file : List ℕ) → length file ≤ mostBytes → fileCheck w file .number ≡ 0 → mostRoutesShown < fileCheck w file .count
     → pageText w file ≡ refusedText (refused noRoom 0)
 
--- "Other refusals print `refused`, number, place."
+-- "A file that is refused: `refused`, the number and the place"
 abbrev pub PageRefused : Type 0
 PageRefused =
     (w : ℕ) (file : List ℕ) → length file ≤ mostBytes → (fileCheck w file .number ≡ 0 → ⊥) → pageText w file ≡ refusedText (fileCheck w file)
 
--- "Otherwise": the lines of THE listing of the plain scan of the file's routes
+-- "Any other": the lines of THE listing of the plain scan of the file's routes
 abbrev pub PageListed : Type 0
 PageListed =
     (w : ℕ) (file : List ℕ) (rs : List Run) → length file ≤ mostBytes → fileCheck w file .number ≡ 0

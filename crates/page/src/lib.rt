@@ -5,24 +5,32 @@ ghost use Prim.Native.Nat.{_+_, _*_, _≤_};
 ghost use lib.ListN.{length};
 ghost use Rattle.promise.specs.Over.{outcome};
 ghost use Rattle.routes.specs.Refusals.{refused};
-ghost use Rattle.routes.specs.Routes.{routeAt};
+ghost use Rattle.routes.specs.Routes.{routeAt, routeCount};
 ghost use Rattle.lists.specs.Numbered.{listOf};
 ghost use Rattle.runs_rules.specs.Runs.{run};
 ghost use Rattle.runs_rules.specs.Listing.{listed};
 ghost use Rattle.page.specs.Page.{lineOf, linesOf, header, runsText, refusedText, runAt, pageOf};
 ghost use Rattle.page.specs.Needs.{Wrote, Lined, Shown};
 use file_read::read_file;
-use list_runs::write_runs;
+use list_runs::RUN_SIZE;
+use list_runs::list_runs;
 use put::put_byte;
 use put::put_bytes;
 use put::put_dotted;
 use put::put_number;
+use routes::ROUTE_SIZE;
 use routes::refusal::NO_ROOM;
 
 mod put;
 
-// "Over 1,797 bytes, or over 256 routes"
+// A longer file is refused.
 const MOST_BYTES: usize = 1797;
+
+// The words of as many routes as a page shows, 256.
+const LIST_SIZE: usize = 256 * ROUTE_SIZE;
+
+// The words of as many runs as these routes have, 513.
+const RUNS_SIZE: usize = 513 * RUN_SIZE;
 
 // Bytes that hold any page: a header of 16, and 513 lines of 43.
 pub const PAGE_ROOM: usize = 22075;
@@ -48,7 +56,7 @@ fn put_lines(out: &mut [u8], at: usize, runs: &[u32], n: usize) -> usize
     let mut next = at;
     let mut i: usize = 0;
     while i < n {
-        let row = i * 3;
+        let row = i * RUN_SIZE;
         next = put_line(out, next, runs[row], runs[row + 1], runs[row + 2]);
         i += 1;
     }
@@ -78,13 +86,13 @@ fn put_refusal(out: &mut [u8], number: u32, place: u32) -> usize
     put_byte(out, d, b'\n')
 }
 
-// The listing of the first n routes of a list that is known to be valid.
-fn put_runs(list: &[u32], n: usize, out: &mut [u8]) -> usize
-    requires { ⌜ Shown (routeAt (now list)) n (now out) ⌝ }
-    ensures { λ r. ⌜ Wrote (now (out .entry)) 0 (runsText (listed 32 (routeAt (now (list .entry))) n)) r (now (out .exit)) ⌝ }
+// The listing of a list that the check accepts, and that a page shows.
+fn put_runs(list: &[u32], out: &mut [u8]) -> usize
+    requires { ⌜ Shown 32 (now list) (now out) ⌝ }
+    ensures { λ r. ⌜ Wrote (now (out .entry)) 0 (runsText (listed 32 (routeAt (now (list .entry))) (routeCount (now (list .entry))))) r (now (out .exit)) ⌝ }
 {
-    let mut runs = [0u32; 1539];
-    let written = write_runs(list, n, &mut runs);
+    let mut runs = [0u32; RUNS_SIZE];
+    let written = list_runs(list, &mut runs);
     put_listing(out, &runs, written.count as usize)
 }
 
@@ -98,10 +106,11 @@ pub fn page(file: &[u8], out: &mut [u8]) -> usize
     if MOST_BYTES < file.len() {
         return put_refusal(out, NO_ROOM, 0);
     }
-    let mut list = [0u32; 768];
+    let mut list = [0u32; LIST_SIZE];
     let got = read_file(file, &mut list);
     if got.number != 0 {
         return put_refusal(out, got.number, got.place);
     }
-    put_runs(&list, got.count as usize, out)
+    let size = got.count as usize * ROUTE_SIZE;
+    put_runs(&list[..size], out)
 }

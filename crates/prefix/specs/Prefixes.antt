@@ -1,5 +1,5 @@
--- Defines the halves of a prefix as prefixes: rules, "A prefix has a first and a last address and, below 32 bits, a left and
--- a right half". What the rules leave open, the halves of a single address, is that address. Assumes nothing.
+-- Defines the halves of a prefix as prefixes: RULES, "Addresses and prefixes". The halves of a single address, which has none, are
+-- that address: RULES, "Readings". Assumes nothing.
 use mathlib.Core.Path.{_≡_}
 use mathlib.Core.Bool.{cond}
 use Prim.Native.Nat.{ℕ, _+_, _^_, _<_, _≤_}

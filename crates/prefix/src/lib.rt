@@ -1,5 +1,5 @@
 // Prefixes of 32-bit addresses, by value: the whole space, ends, halves, order, and the one match test.
-// Every method answers for every value and length; docs/DECISIONS.md says what outside the rules' domain.
+// Every method answers for every value and length; RULES, "Readings", says what where there is no such prefix.
 ghost use mathlib.Core.Path.{_≡_};
 ghost use Prim.Native.Nat.{_-_, _%_, _^_, _≤_};
 ghost use Rattle.bits.specs.Bits.{bitBefore};

@@ -1,5 +1,5 @@
--- Defines that a promise leaves no choice: rules, "How tight the promises are", "that any two results allowed by it coincide".
--- It speaks of the contract itself, as it is generated beside the function. Assumes nothing.
+-- Defines that a promise leaves no choice: RULES, "Promises". It speaks of the contract itself, as it is generated beside the
+-- function. Assumes nothing.
 use mathlib.Core.Path.{_≡_}
 use mathlib.Core.List.{List}
 use Prim.Native.Nat.{ℕ}

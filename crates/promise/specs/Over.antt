@@ -1,4 +1,4 @@
--- Defines what a writer leaves: rules, "Writers leave lent memory past their output unchanged". Assumes nothing.
+-- Defines what a writer leaves: RULES, "Calls". Assumes nothing.
 use mathlib.Core.List.{List, [], _∷_, _++_}
 use Prim.Native.Nat.{ℕ, _+_}
 use lib.ListN.{length, drop, set}

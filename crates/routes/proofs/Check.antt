@@ -1,4 +1,4 @@
--- The check of a list refuses exactly in the listed cases: rules, "List: 3, 8; per route 4, 5, 6, 7". Assumes nothing.
+-- The check of a list refuses exactly in the listed cases: RULES, "Order of the checks". Assumes nothing.
 use mathlib.Core.Path.{_≡_, refl, sym, ap, _∙_}
 use mathlib.Core.Logic.{_⊎_, inl, inr}
 use mathlib.Core.Bool.{true, false, or-true}

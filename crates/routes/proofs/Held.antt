@@ -1,4 +1,4 @@
--- The plain scan of a valid list is that of the set that the list holds, by the bits of its prefixes: rules, "Plain scan".
+-- The plain scan of a valid list is that of the set that the list holds, by the bits of its prefixes: RULES, "The plain scan".
 -- Assumes nothing.
 use mathlib.Core.Path.{_≡_, refl, sym, ap, _∙_}
 use mathlib.Core.Bool.{Bool}

@@ -1,4 +1,4 @@
--- The plain scan takes the last match of a valid list: rules, "Plain scan". Assumes nothing.
+-- The plain scan takes the last match of a valid list: RULES, "The plain scan". Assumes nothing.
 use mathlib.Core.Path.{_≡_, refl, sym, ap, _∙_}
 use mathlib.Core.Logic.{⊎-elim}
 use mathlib.Core.Bool.{Bool, true, false, cond, _&&_}

@@ -1,4 +1,4 @@
--- Defines the checks of a route list: rules, "Order. ... List: 3, 8; per route 4, 5, 6, 7". Assumes nothing.
+-- Defines the checks of a route list: RULES, "Order of the checks". Assumes nothing.
 use mathlib.Core.Path.{_≡_}
 use mathlib.Core.Bool.{Bool, cond, _&&_, _||_}
 use mathlib.Core.List.{List}

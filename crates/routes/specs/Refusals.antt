@@ -1,4 +1,4 @@
--- Defines the published refusals and what a call answers: rules, "Numbers on the refusal lamp". Assumes nothing.
+-- Defines the published refusals and what a call answers: RULES, "Refusals". Assumes nothing.
 use mathlib.Core.Bool.{Bool, cond}
 use Prim.Native.Nat.{ℕ}
 use lib.Dec.{eqb}

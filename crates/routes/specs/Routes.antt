@@ -1,8 +1,8 @@
--- Defines the routes of a list, and when a route and a list are valid: rules, "A route list is three 32-bit words a route".
+-- Defines the routes of a list, and when a route and a list are valid: RULES, "The route list".
 -- Routes are numbered, so that no list is taken apart: R i is route i. Assumes nothing.
 use mathlib.Core.Path.{_≡_}
 use mathlib.Core.Bool.{true, cond}
-use mathlib.Core.List.{List, [], _∷_, _++_}
+use mathlib.Core.List.{List, [], _∷_}
 use Prim.Native.Nat.{ℕ, _+_, _*_, _/_, _≤_, _<_, _%_, _^_}
 use lib.Dec.{ltb}
 use lib.ListN.{length, getD}
@@ -12,6 +12,8 @@ use Rattle.bits.specs.Prefix.{Valid, precedes}
 use Rattle.trie.specs.Routes.{Route as BitRoute}
 use Rattle.routes.specs.Refusals.{mostRoutes, lastPort}
 use Rattle.routes.specs.declared.Route.{Route}
+use Rattle.lists.specs.Numbered.{inOrder}
+use Rattle.lists.specs.Flat.{flat}
 
 abbrev pub route : ℕ → ℕ → ℕ → Route
 route value len port = record { value = value; len = len; port = port }
@@ -58,9 +60,8 @@ abbrev pub bitRoute : ℕ → Route → BitRoute
 bitRoute w r = record { prefix = prefixBits w (r .value) (r .len); port = r .port }
 
 -- the words of routes, one after the other
-unfoldable pub wordsOf : List Route → List ℕ
-wordsOf [] = []
-wordsOf (r ∷ rs) = routeWords r ++ wordsOf rs
+abbrev pub wordsOf : List Route → List ℕ
+wordsOf rs = flat routeWords rs
 
 -- every word of the list is a word of w bits
 abbrev pub Words : ℕ → List ℕ → Type 0
@@ -70,3 +71,7 @@ Words w words = (i : ℕ) → getD words i 0 < 2 ^ w
 pub record Sized (words : List ℕ) : Type 0 where
   pub whole : length words % 3 ≡ 0
   pub few : routeCount words ≤ mostRoutes
+
+-- the words of the first n routes
+abbrev pub listOfRoutes : (ℕ → Route) → ℕ → List ℕ
+listOfRoutes R n = inOrder routeWords R n

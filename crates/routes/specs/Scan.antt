@@ -1,4 +1,4 @@
--- Defines the plain scan of a route list: rules, "Plain scan". Assumes nothing.
+-- Defines the plain scan of a route list: RULES, "The plain scan". Assumes nothing.
 use mathlib.Core.Bool.{Bool, cond}
 use mathlib.Core.List.{List}
 use Prim.Native.Nat.{ℕ, zero, suc}

@@ -1,4 +1,5 @@
--- States what this layer is there for: rules, the refusals of a list, and "Plain scan". Proofs are in proofs/. Assumes nothing.
+-- States what this layer is there for: RULES, "The route list", "Order of the checks" and "The plain scan". Proofs are in proofs/.
+-- Assumes nothing.
 use mathlib.Core.Path.{_≡_}
 use mathlib.Core.List.{List, map}
 use mathlib.Core.Logic.{_⊎_, _↔_}

@@ -1,5 +1,5 @@
 -- Going by boundaries lists what going address by address does, and the plain scan changes at the boundaries of its routes
--- only: rules, "The run listing", "At most 2n+1 runs". Assumes nothing.
+-- only: RULES, "The run listing". Assumes nothing.
 use mathlib.Core.Path.{_≡_, refl, sym, ap, _∙_}
 use mathlib.Core.Logic.{_⊎_, inl, inr, ⊎-elim}
 use mathlib.Core.Bool.{Bool, true, false, _||_}

@@ -1,4 +1,4 @@
--- The listing of routes: it is the one of their plain scan, short, and found by boundaries. Rules, "The run listing". Assumes nothing.
+-- The listing of routes: it is the one of their plain scan, short, and found by boundaries. RULES, "The run listing". Assumes nothing.
 use mathlib.Core.Path.{_≡_, refl, sym, ap, _∙_}
 use mathlib.Core.List.{List, [], _∷_}
 use Prim.Native.Nat.{ℕ, _*_, _/_, _^_, _≤_}
@@ -13,7 +13,7 @@ use Rattle.lists.specs.Numbered.{listOf}
 use Rattle.routes.specs.Check.{listCheck}
 use Rattle.routes.proofs.Check.{accepted-sized}
 use Rattle.routes.specs.Scan.{scanOf}
-use Rattle.runs_rules.specs.Runs.{Run, Lists, runs, runsFrom, runWords}
+use Rattle.runs_rules.specs.Runs.{Run, Lists, runs, runsFrom, runSize, runWords}
 use Rattle.runs_rules.specs.Boundaries.{boundaries, runsBy}
 use Rattle.runs_rules.specs.Listing.{listed, mostRuns, writeRuns, listRuns}
 use Rattle.runs_rules.specs.Theorems.{ListedLists, ListedFew, NeverTooMany, ListedNone, ListedBoundaries, ListRunsDone, ListRunsShort, ListRunsRefused}
@@ -43,6 +43,12 @@ listed-none w R = listed-boundaries w R 0
 
 -- the answers to a list
 
+-- a list that the check accepts: what is listed of its routes is written
+pub list-runs-accepted : (w : ℕ) (list lent : List ℕ) → listCheck w list .number ≡ 0
+    → listRuns w list lent ≡ writeRuns (listed w (routeAt list) (routeCount list)) lent
+unfolding listRuns
+list-runs-accepted w list lent fine = rw (eq-eqb (listCheck w list .number) 0 fine) refl
+
 -- any listing of an accepted list is what is listed of it, and not too long
 module _ (w : ℕ) (list : List ℕ) (rs : List Run) (fine : listCheck w list .number ≡ 0)
     (lists : Lists (scanOf w (routeAt list) (routeCount list)) (2 ^ w) 0 rs) where
@@ -61,26 +67,25 @@ module _ (w : ℕ) (list : List ℕ) (rs : List Run) (fine : listCheck w list .n
       )
 
   list-runs-fine : (lent : List ℕ) → listRuns w list lent ≡ writeRuns rs lent
-  unfolding listRuns
-  list-runs-fine lent = rw (eq-eqb (listCheck w list .number) 0 fine) (ap (λ (qs : List Run). writeRuns qs lent) is-listed)
+  list-runs-fine lent = list-runs-accepted w list lent fine ∙ ap (λ (qs : List Run). writeRuns qs lent) is-listed
 
 pub list-runs-done : ListRunsDone
 unfolding writeRuns
 list-runs-done w list lent rs fine lists room =
     list-runs-fine w list rs fine lists lent
-    ∙ simp (le-leb (length rs) mostRuns (few w list rs fine lists), le-leb (length rs) (length lent / 3) (omega arith))
+    ∙ simp (le-leb (length rs) mostRuns (few w list rs fine lists), le-leb (length rs) (length lent / runSize) (omega arith))
 
 pub list-runs-short : ListRunsShort
 unfolding writeRuns
 list-runs-short w list lent rs fine lists short =
     list-runs-fine w list rs fine lists lent
-    ∙ simp (le-leb (length rs) mostRuns (few w list rs fine lists), lt-leb (length rs) (length lent / 3) (omega arith))
+    ∙ simp (le-leb (length rs) mostRuns (few w list rs fine lists), lt-leb (length rs) (length lent / runSize) (omega arith))
 
 pub list-runs-refused : ListRunsRefused
 unfolding listRuns
 list-runs-refused w list lent wrong = simp (ne-eqb (listCheck w list .number) 0 wrong)
 
 -- three words a run
-pub length-run-words : (rs : List Run) → length (runWords rs) ≡ length rs * 3
+pub length-run-words : (rs : List Run) → length (runWords rs) ≡ length rs * runSize
 length-run-words [] = refl
 length-run-words (r ∷ rs) = omega (arith, length-run-words rs)

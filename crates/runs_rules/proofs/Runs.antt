@@ -1,4 +1,4 @@
--- Every port of an address has exactly one listing, and going address by address gives it: rules, "The run listing".
+-- Every port of an address has exactly one listing, and going address by address gives it: RULES, "The run listing".
 -- Assumes nothing.
 use mathlib.Core.Path.{_≡_, refl, sym, ap, ap₂, _∙_}
 use mathlib.Core.Logic.{_⊎_, ⊎-elim}

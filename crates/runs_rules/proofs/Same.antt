@@ -1,12 +1,18 @@
 -- Routes that agree have one listing, and ports that agree too. Assumes nothing.
-use mathlib.Core.Path.{_≡_, ap}
+use mathlib.Core.Path.{_≡_, sym, ap, _∙_}
 use mathlib.Core.List.{List, [], _∷_}
-use Prim.Native.Nat.{ℕ, _+_, _^_, _<_}
+use Prim.Native.Nat.{ℕ, _+_, _*_, _^_, _<_}
 use native.Mathlib.Omega.{arith}
+use lib.ListN.{length}
 use Rattle.trie.specs.Scan.{plainScan}
-use Rattle.routes.specs.Routes.{ValidList}
+use Rattle.routes.specs.Refusals.{accepted}
+use Rattle.routes.specs.Routes.{routeSize, routeAt, routeCount, ValidList}
+use Rattle.routes.specs.Check.{faultAt, listCheck}
 use Rattle.routes.specs.Scan.{routeMatches}
 use Rattle.routes.specs.declared.Route.{Route}
+use Rattle.routes.proofs.Faults.{none-fault, valid-faultless}
+use Rattle.routes.proofs.First.{first-fault-none}
+use Rattle.routes.proofs.Check.{list-check-sized, valid-above}
 use Rattle.lists.proofs.Numbered.{list-of-same}
 use Rattle.runs_rules.specs.Runs.{Run, Lists, runs}
 use Rattle.runs_rules.specs.Listing.{listed}
@@ -24,6 +30,25 @@ module _ (w : ℕ) (R Q : ℕ → Route) (n : ℕ) (e : (j : ℕ) → j < n → 
     each = λ i h. rw (← e i h) (ok .each i h);
     rises = λ i h. rw (← e i (omega arith), ← e (i + 1) h) (ok .rises i h);
   }
+
+-- words that hold n valid routes and no more: a list that the check accepts, with the listing of these routes
+module _ (w : ℕ) (R : ℕ → Route) (n : ℕ) (words : List ℕ) (size : length words ≡ n * routeSize)
+    (same : (i : ℕ) → i < n → R i ≡ routeAt words i) where
+  count-is : routeCount words ≡ n
+  count-is = omega (arith, size)
+
+  pub words-accepted : ValidList w R n → listCheck w words ≡ accepted 0
+  words-accepted ok =
+      list-check-sized w words (record { whole = omega (arith, size); few = rw count-is (ok .few) })
+      ∙ first-fault-none (faultAt w (routeAt words)) (routeCount words)
+      (λ i h. none-fault w (routeAt words) i
+      (valid-faultless w (routeAt words) i (valid .each i (omega (arith, count-is))) (valid-above w (routeAt words) n i valid (omega (arith, count-is)))))
+    where
+      valid : ValidList w (routeAt words) n
+      valid = valid-same w R (routeAt words) n same ok
+
+  pub words-listed : listed w (routeAt words) (routeCount words) ≡ listed w R n
+  words-listed = ap (λ (k : ℕ). listed w (routeAt words) k) count-is ∙ sym (listed-same w R (routeAt words) n same)
 
 -- ports that agree below n
 pub lists-same : (f g : ℕ → ℕ) (n a : ℕ) (rs : List Run) → ((x : ℕ) → x < n → f x ≡ g x) → Lists f n a rs → Lists g n a rs

@@ -1,5 +1,5 @@
 -- Defines the listing by boundaries, which computes for 32-bit addresses: a run ends only before the first address of a
--- route or after its last. Rules, "The run listing"; "A prefix has a first and a last address". Assumes nothing.
+-- route or after its last. RULES, "The run listing", "Addresses and prefixes". Assumes nothing.
 use mathlib.Core.Bool.{Bool, cond, not, _&&_}
 use mathlib.Core.List.{List, [], _∷_}
 use Prim.Native.Nat.{ℕ, zero, suc, _+_, _-_, _^_}

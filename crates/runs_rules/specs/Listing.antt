@@ -1,5 +1,5 @@
--- Defines the listing of routes and what a call that writes it answers and leaves: rules, "The run listing"; "Listing: list
--- checks or 11, then 13, then 9". Assumes nothing.
+-- Defines the listing of routes and what a call that writes it answers and leaves: RULES, "The run listing", "Order of the
+-- checks". Assumes nothing.
 use mathlib.Core.Bool.{cond}
 use mathlib.Core.List.{List}
 use Prim.Native.Nat.{ℕ, _/_, _^_}
@@ -12,13 +12,13 @@ use Rattle.routes.specs.Check.{listCheck}
 use Rattle.routes.specs.Scan.{scanOf}
 use Rattle.routes.specs.declared.Route.{Route}
 use Rattle.routes.specs.declared.Answer.{Answer}
-use Rattle.runs_rules.specs.Runs.{Run, runs, runWords}
+use Rattle.runs_rules.specs.Runs.{Run, runs, runSize, runWords}
 
 -- the listing of n routes: the runs of their plain scan over the whole address space
 abbrev pub listed : ℕ → (ℕ → Route) → ℕ → List Run
 listed w R n = runs (scanOf w R n) (2 ^ w)
 
--- "more than 8,193 runs"
+-- 13: "there are more than 8,193 runs"
 abbrev pub mostRuns : ℕ
 mostRuns = 8193
 
@@ -26,10 +26,10 @@ mostRuns = 8193
 unfoldable pub writeRuns : List Run → List ℕ → Outcome Answer
 writeRuns rs lent =
     cond (leb (length rs) mostRuns)
-    (cond (leb (length rs) (length lent / 3)) (outcome (accepted (length rs)) (over (runWords rs) lent)) (outcome (refused noRoom 0) lent))
+    (cond (leb (length rs) (length lent / runSize)) (outcome (accepted (length rs)) (over (runWords rs) lent)) (outcome (refused noRoom 0) lent))
     (outcome (refused tooManyRuns 0) lent)
 
--- "From a valid list": the list checks first
+-- "The runs of a valid list": the list checks come first
 unfoldable pub listRuns : ℕ → List ℕ → List ℕ → Outcome Answer
 listRuns w list lent =
     cond (eqb (listCheck w list .number) 0)

@@ -1,11 +1,11 @@
--- Defines the run listing of any port of an address f : ℕ → ℕ: rules, "The run listing". Assumes nothing.
+-- Defines the run listing of any port of an address f : ℕ → ℕ: RULES, "The run listing". Assumes nothing.
 use mathlib.Core.Path.{_≡_}
 use mathlib.Core.Bool.{cond}
 use mathlib.Core.List.{List, [], _∷_}
 use Prim.Native.Nat.{ℕ, zero, suc, _+_, _-_, _≤_, _<_}
 use lib.Dec.{eqb}
 
--- "first address, last address, port"
+-- a run: first address, last address, port
 pub record Run : Type 0 where
   pub first : ℕ
   pub last : ℕ
@@ -21,7 +21,7 @@ pub record RunAt (f : ℕ → ℕ) (n a : ℕ) (r : Run) : Type 0 where
   pub within : r .last < n
   pub one-port : (x : ℕ) → a ≤ x → x ≤ r .last → f x ≡ r .port
 
--- "Neighbouring runs have different ports": no run follows one of port p, or one with another port
+-- "neighbours have different ports": no run follows one of port p, or one with another port
 abbrev pub Apart : ℕ → List Run → Type 0
 Apart p [] = Unit {0}
 Apart p (r ∷ rs) = r .port ≡ p → ⊥
@@ -42,7 +42,11 @@ runsFrom f s c (suc k) =
 unfoldable pub runs : (ℕ → ℕ) → ℕ → List Run
 runs f n = runsFrom f 0 0 n
 
--- "three 32-bit words a run, first address, last address, port"
+-- "Three words a run"
+abbrev pub runSize : ℕ
+runSize = 3
+
+-- "first address, last address, port"
 abbrev pub runWords : List Run → List ℕ
 runWords [] = []
 runWords (r ∷ rs) = r .first ∷ r .last ∷ r .port ∷ runWords rs

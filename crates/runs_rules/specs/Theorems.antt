@@ -1,4 +1,4 @@
--- States what this layer is there for: rules, "The run listing", and bench example 12. Proofs are in proofs/. Assumes nothing.
+-- States what this layer is there for: RULES, "The run listing". Proofs are in proofs/. Assumes nothing.
 use mathlib.Core.Path.{_≡_}
 use mathlib.Core.List.{List, [], _∷_}
 use Prim.Native.Nat.{ℕ, _+_, _-_, _*_, _^_, _≤_, _<_}
@@ -9,7 +9,7 @@ use Rattle.routes.specs.Routes.{routeAt, routeCount, ValidList}
 use Rattle.routes.specs.Check.{listCheck}
 use Rattle.routes.specs.Scan.{scanOf}
 use Rattle.routes.specs.declared.Route.{Route}
-use Rattle.runs_rules.specs.Runs.{Run, run, Lists, runs, runWords}
+use Rattle.runs_rules.specs.Runs.{Run, run, Lists, runs, runSize, runWords}
 use Rattle.runs_rules.specs.Boundaries.{boundaryRuns}
 use Rattle.runs_rules.specs.Listing.{listed, mostRuns, listRuns}
 
@@ -25,7 +25,7 @@ ListingExists = (f : ℕ → ℕ) (n : ℕ) → 0 < n → Lists f n 0 (runs f n)
 abbrev pub ListedLists : Type 0
 ListedLists = (w : ℕ) (R : ℕ → Route) (n : ℕ) → Lists (scanOf w R n) (2 ^ w) 0 (listed w R n)
 
--- "At most 2n+1 runs"
+-- "n routes have at most 2n+1 runs"
 abbrev pub ListedFew : Type 0
 ListedFew = (w : ℕ) (R : ℕ → Route) (n : ℕ) → length (listed w R n) ≤ 2 * n + 1
 
@@ -33,7 +33,7 @@ ListedFew = (w : ℕ) (R : ℕ → Route) (n : ℕ) → length (listed w R n) �
 abbrev pub NeverTooMany : Type 0
 NeverTooMany = (w : ℕ) (R : ℕ → Route) (n : ℕ) → ValidList w R n → length (listed w R n) ≤ mostRuns
 
--- "the empty table has one", to port 0
+-- "none have one run, all addresses to port 0"
 abbrev pub ListedNone : Type 0
 ListedNone = (w : ℕ) (R : ℕ → Route) → listed w R 0 ≡ run 0 (2 ^ w - 1) 0 ∷ []
 
@@ -45,14 +45,14 @@ ListedBoundaries = (w : ℕ) (R : ℕ → Route) (n : ℕ) → listed w R n ≡ 
 abbrev pub ListRunsDone : Type 0
 ListRunsDone =
     (w : ℕ) (list lent : List ℕ) (rs : List Run) → listCheck w list .number ≡ 0
-    → Lists (scanOf w (routeAt list) (routeCount list)) (2 ^ w) 0 rs → length rs * 3 ≤ length lent
+    → Lists (scanOf w (routeAt list) (routeCount list)) (2 ^ w) 0 rs → length rs * runSize ≤ length lent
     → listRuns w list lent ≡ outcome (accepted (length rs)) (over (runWords rs) lent)
 
--- "9 | the lent output is too short for what is to be written"
+-- 9: "the memory lent is too short for what is to be written"
 abbrev pub ListRunsShort : Type 0
 ListRunsShort =
     (w : ℕ) (list lent : List ℕ) (rs : List Run) → listCheck w list .number ≡ 0
-    → Lists (scanOf w (routeAt list) (routeCount list)) (2 ^ w) 0 rs → length lent < length rs * 3
+    → Lists (scanOf w (routeAt list) (routeCount list)) (2 ^ w) 0 rs → length lent < length rs * runSize
     → listRuns w list lent ≡ outcome (refused noRoom 0) lent
 
 -- a list that is refused is refused as its check does, and no lent memory is written

@@ -1,4 +1,4 @@
--- Defines one step of a sinking route as the code takes it: rules, "Announce". Assumes nothing.
+-- Defines one step of a sinking route as the code takes it: RULES, "Announce". Assumes nothing.
 use Prim.Native.Nat.{ℕ, suc, _-_}
 use Rattle.routes.specs.declared.Route.{Route}
 use Rattle.table_rules.specs.Rows.{Layout, child, routeOf, leafRow, withRoute, withChild}

@@ -1,4 +1,4 @@
--- Defines one step of a withdrawal as the code takes it: rules, "Withdraw". Assumes nothing.
+-- Defines one step of a withdrawal as the code takes it: RULES, "Withdraw". Assumes nothing.
 use mathlib.Core.Bool.{Bool, cond}
 use Prim.Native.Nat.{ℕ}
 use Rattle.routes.specs.declared.Route.{Route}

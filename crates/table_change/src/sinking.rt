@@ -115,7 +115,7 @@ pub fn is_held(rows: &[u32], n: u32, q: Route) -> bool
     held_from_root(rows, q)
 }
 
-// The rows with the route, for which there is a row if its prefix is new.
+// The rows of a table of n routes with the route; a new prefix gets row n.
 pub fn put_route(rows: &mut [u32], n: u32, q: Route)
     ensures { λ _. ⌜ now (rows .exit) ≡ announced fiveWords 32 (now (rows .entry)) n q ⌝ }
 {

@@ -1,4 +1,4 @@
--- One step of the search on any rows, as the code takes it: rules, "Lookup". Assumes nothing.
+-- One step of the search on any rows, as the code takes it: RULES, "Lookup in a table". Assumes nothing.
 use mathlib.Core.Path.{_≡_, refl, sym, ap, _∙_}
 use mathlib.Core.Bool.{Bool, true, false, cond}
 use Prim.Native.Nat.{ℕ, zero, suc, _+_, _-_, _<_, _≤_}

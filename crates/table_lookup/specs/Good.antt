@@ -1,4 +1,4 @@
--- Defines the check of good order as a call answers it: rules, "11 | table not in good order; in a lookup, as above | 0".
+-- Defines the check of good order as a call answers it: RULES, "Refusals".
 -- Assumes nothing.
 use mathlib.Core.Bool.{cond}
 use Prim.Native.Nat.{ℕ}

@@ -1,5 +1,5 @@
--- Defines where a row lies in the words of a table: rules, "A row is five 32-bit words". Other layouts change this file alone.
--- Assumes nothing.
+-- Defines where a row lies in the words of a table: RULES, "The table". No other definition says so; the laws of updates are over any
+-- layout, and this is the one in use. Assumes nothing.
 use mathlib.Core.List.{List}
 use Prim.Native.Nat.{ℕ, _+_, _*_, _/_, min}
 use mathlib.Core.Bool.{cond}

@@ -1,5 +1,5 @@
 -- Lists of routes in which each stands before all that follow: a route put in, one list after another, and such a list as a
--- valid route list. Rules, "strictly ascending by value, then by length". Assumes nothing.
+-- valid route list. RULES, "Addresses and prefixes". Assumes nothing.
 use mathlib.Core.Path.{_≡_, refl, sym, ap, _∙_}
 use mathlib.Core.Logic.{_⊎_, inl, inr, ⊎-elim}
 use mathlib.Core.Bool.{Bool, true, false, cond, true≢false}

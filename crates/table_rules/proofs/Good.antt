@@ -1,5 +1,5 @@
 -- The check answers yes exactly where the table is in good order, and a table in good order is so for one set of routes:
--- rules, "A table is in good order if". Assumes nothing.
+-- RULES, "Good order". Assumes nothing.
 use mathlib.Core.Path.{_≡_, refl, sym, ap, _∙_, subst, fun-ext}
 use mathlib.Core.Logic.{_⊎_, inl, inr, ⊎-elim}
 use mathlib.Core.Bool.{Bool, true, false, cond, not, true≢false}

@@ -1,5 +1,5 @@
--- A row that is not wrong at a path, by its numbers and by its bits: rules, "a prefix that differs from the address in the first
--- (depth) bits". Here the walk's numbers meet the trie's bits. Assumes nothing.
+-- A row that is not wrong at a path, by its numbers and by its bits: RULES, "Lookup in a table". Here the walk's numbers meet the
+-- trie's bits. Assumes nothing.
 use mathlib.Core.Path.{_≡_, sym, ap, _∙_}
 use mathlib.Core.Bool.{Bool, true, false}
 use mathlib.Core.List.{[], _∷_, _++_}

@@ -1,5 +1,5 @@
 -- The rows that are reached from a row that holds a trie: each has one place, and they are the routes of the trie's set.
--- Rules, "every row below n is reached exactly once from row 0, its routes are valid with different prefixes". Assumes nothing.
+-- RULES, "Good order". Assumes nothing.
 use mathlib.Core.Path.{_≡_, refl, sym, ap, _∙_, subst}
 use mathlib.Core.Logic.{_⊎_, inl, inr}
 use mathlib.Core.Bool.{Bool, true, false, true≢false}

@@ -1,4 +1,4 @@
--- What a row says that is not wrong where it is read: rules, "Lookup", "if a row read has". Assumes nothing.
+-- What a row says that is not wrong where it is read: RULES, "Lookup in a table". Assumes nothing.
 use mathlib.Core.Path.{_≡_, sym, _∙_}
 use mathlib.Core.Bool.{Bool, true, false, not}
 use Prim.Native.Nat.{ℕ, _%_, _<_, _≤_}

@@ -1,5 +1,4 @@
--- The list that a table in good order is saved as is valid, has n routes, and holds the table's set: rules, "Saving a table as a
--- list". Assumes nothing.
+-- The list that a table in good order is saved as is valid, has n routes, and holds the table's set: RULES, "Build and save". Assumes nothing.
 use mathlib.Core.Path.{_≡_, refl, sym, ap, ap₂, _∙_, subst, fun-ext}
 use mathlib.Core.Logic.{_⊎_, inl, inr, ⊎-elim}
 use mathlib.Core.Bool.{Bool, true, false, cond}
@@ -33,7 +32,7 @@ use Rattle.table_rules.proofs.Paths.{At, head-path}
 use Rattle.table_rules.proofs.Holds.{Below, below-root, below-child, below-once}
 use Rattle.table_rules.specs.Walk.{savedBelow}
 use Rattle.table_rules.specs.Ascending.{Before, Ascending}
-use Rattle.table_rules.specs.Ready.{Ready}
+use Rattle.table_rules.specs.Savable.{Savable}
 use Rattle.table_rules.proofs.Reach.{upd-live, size}
 use Rattle.table_rules.proofs.Place.{holds-deep}
 use Rattle.table_rules.proofs.Good.{once-size}
@@ -201,21 +200,21 @@ module _ (w : ℕ) (M : Mem) where
 
 -- the walk may write the rows of a table
 module _ (w : ℕ) (M : Mem) (room : ℕ) where
-  abbrev ReadyAt : Trie → Type 0
-  ReadyAt leaf = Unit {0}
-  ReadyAt (node s p c) =
+  abbrev SavableAt : Trie → Type 0
+  SavableAt leaf = Unit {0}
+  SavableAt (node s p c) =
       (path : Bits) (k r : ℕ) (S : Routes) → length path + k ≡ w → Holds w M path r (node s p c) → IsTrie (node s p c) S
-      → Below M r (node s p c) room → Ready M room k r
+      → Below M r (node s p c) room → Savable M room k r
 
-  ready-child : (t : Trie) → ReadyAt t → (path : Bits) (k c : ℕ) (S : Routes) → length path + k ≡ w → Names c t → Holds w M path c t → IsTrie t S
-      → Below M c t room → 0 < c → Ready M room k c
-  ready-child leaf ih path k c S deep names h rule low pos = absurd (omega arith)
-  ready-child (node s p d) ih path k c S deep names h rule low pos = ih path k c S deep h rule low
+  savable-child : (t : Trie) → SavableAt t → (path : Bits) (k c : ℕ) (S : Routes) → length path + k ≡ w → Names c t → Holds w M path c t → IsTrie t S
+      → Below M c t room → 0 < c → Savable M room k c
+  savable-child leaf ih path k c S deep names h rule low pos = absurd (omega arith)
+  savable-child (node s p d) ih path k c S deep names h rule low pos = ih path k c S deep h rule low
 
-  ready-node : (s : Bits) (p : ℕ) (c : Bool → Trie) → ((b : Bool) → ReadyAt (c b)) → ReadyAt (node s p c)
-  unfolding Ready
-  ready-node s p c ih path zero r S deep h rule low = below-root M r s p c room low
-  ready-node s p c ih path (suc k) r S deep h rule low =
+  savable-node : (s : Bits) (p : ℕ) (c : Bool → Trie) → ((b : Bool) → SavableAt (c b)) → SavableAt (node s p c)
+  unfolding Savable
+  savable-node s p c ih path zero r S deep h rule low = below-root M r s p c room low
+  savable-node s p c ih path (suc k) r S deep h rule low =
       let on : ((b : Bool) → length (path ++ (b ∷ [])) + k ≡ w) = (λ b. omega (arith, length-append path (b ∷ []))) in (
         below-root M r s p c room low,
         both-rise w path S s p c rule (routeOf (M r)) (h .valid) (h .bits) (h .port) (λ b. savedBelow M k (child (M r) b))
@@ -223,23 +222,23 @@ module _ (w : ℕ) (M : Mem) (room : ℕ) where
             saves-child w M (c b) (saves-as w M (c b)) (path ++ (b ∷ [])) k (child (M r) b) (side b (upd S s 0)) (on b) (h .below b .0) (h .below b .1)
             (rule .rest b)),
         λ b pos.
-            ready-child (c b) (ih b) (path ++ (b ∷ [])) k (child (M r) b) (side b (upd S s 0)) (on b) (h .below b .0) (h .below b .1) (rule .rest b)
+            savable-child (c b) (ih b) (path ++ (b ∷ [])) k (child (M r) b) (side b (upd S s 0)) (on b) (h .below b .0) (h .below b .1) (rule .rest b)
             (below-child M r s p c room b low) pos,
       )
 
-  ready-at : (t : Trie) → ReadyAt t
-  ready-at leaf = tt
-  ready-at (node s p c) = ready-node s p c (λ b. ready-at (c b))
+  savable-at : (t : Trie) → SavableAt t
+  savable-at leaf = tt
+  savable-at (node s p c) = savable-node s p c (λ b. savable-at (c b))
 
-  ready-root : (n : ℕ) (t : Trie) (S : Routes) → IsTrie t S → Holds w M [] 0 t → ((i : ℕ) → times M 0 t i ≡ cond (ltb i n) 1 0)
-      → 0 < n → n ≤ room → Ready M room w 0
-  ready-root n leaf S rule holds once pos le = absurd (omega (arith, once-size M n leaf once))
-  ready-root n (node s p c) S rule holds once pos le =
-      ready-at (node s p c) [] w 0 S (zero-add w) holds rule (λ i h. omega (arith, below-once M (node s p c) n once i h))
+  savable-root : (n : ℕ) (t : Trie) (S : Routes) → IsTrie t S → Holds w M [] 0 t → ((i : ℕ) → times M 0 t i ≡ cond (ltb i n) 1 0)
+      → 0 < n → n ≤ room → Savable M room w 0
+  savable-root n leaf S rule holds once pos le = absurd (omega (arith, once-size M n leaf once))
+  savable-root n (node s p c) S rule holds once pos le =
+      savable-at (node s p c) [] w 0 S (zero-add w) holds rule (λ i h. omega (arith, below-once M (node s p c) n once i h))
 
-pub good-ready : (w capacity : ℕ) (M : Mem) (n room : ℕ) (S : Routes) → GoodFor w capacity M n S → 0 < n → n ≤ room → Ready M room w 0
-good-ready w capacity M n room S good pos le =
-    let p = good .placed in ready-root w M room n (p .trie) S (p .rule) (p .holds) (p .once) pos le
+pub good-savable : (w capacity : ℕ) (M : Mem) (n room : ℕ) (S : Routes) → GoodFor w capacity M n S → 0 < n → n ≤ room → Savable M room w 0
+good-savable w capacity M n room S good pos le =
+    let p = good .placed in savable-root w M room n (p .trie) S (p .rule) (p .holds) (p .once) pos le
 
 -- a list of all routes of S is valid, and holds S
 lists-well : (w n : ℕ) (S : Routes) (rs : List Route) → n ≤ mostRoutes → Lists w [] S rs n → SavedWell w rs n S

@@ -1,4 +1,4 @@
--- On a table that the check accepts, the lookup answers the plain scan's port of the saved list: rules, "Lookup". Assumes nothing.
+-- On a table that the check accepts, the lookup answers the plain scan's port of the saved list: RULES, "Lookup in a table". Assumes nothing.
 use mathlib.Core.Path.{_≡_, refl, sym, ap, _∙_}
 use mathlib.Core.List.{List, [], _∷_, _++_, map}
 use Prim.Native.Nat.{ℕ, zero, suc, _+_}

@@ -1,5 +1,5 @@
--- Defines how a route sinks to its place in the rows: rules, "Announce", "existing nodes keep their rows, the new place in the
--- trie gets row n". Places keep their rows; the route in a row may change. Over any accessors of rows. Assumes nothing.
+-- Defines how a route sinks to its place in the rows: RULES, "Announce". Places keep their rows; the route in a row may change. Over
+-- any layout of rows. Assumes nothing.
 use mathlib.Core.Bool.{Bool, true, false, cond}
 use Prim.Native.Nat.{ℕ, zero, suc, _-_}
 use lib.Dec.{eqb}

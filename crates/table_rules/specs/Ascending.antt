@@ -1,4 +1,4 @@
--- Defines a list of routes in which each stands before all that follow: rules, "strictly ascending by value, then by length".
+-- Defines a list of routes in which each stands before all that follow: RULES, "Addresses and prefixes".
 -- Assumes nothing.
 use mathlib.Core.Path.{_≡_}
 use mathlib.Core.Bool.{true}

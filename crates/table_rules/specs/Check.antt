@@ -1,4 +1,4 @@
--- Defines the check of good order as a walk: rules, "A table is in good order if". It marks nothing and needs no memory: a row is
+-- Defines the check of good order as a walk: RULES, "Good order". It marks nothing and needs no memory: a row is
 -- met only at paths that its prefix begins with, so a row met twice would be below itself, and the depth ends that. A priority
 -- node must be strictly ahead of the best of everything below it; below an ordinary one there may be longer routes, so the best
 -- is handed up. Assumes nothing.

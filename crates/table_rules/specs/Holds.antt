@@ -1,4 +1,4 @@
--- Defines when rows hold a trie, and good order: rules, "A table is in good order if". Assumes nothing.
+-- Defines when rows hold a trie, and good order: RULES, "Good order". Assumes nothing.
 use mathlib.Core.Path.{_≡_}
 use mathlib.Core.Bool.{Bool, true, false, cond}
 use mathlib.Core.List.{List, [], _∷_, _++_}

@@ -9,6 +9,6 @@ pub mod Announce
 pub mod Withdraw
 pub mod Theorems
 pub mod Ascending
-pub mod Ready
 pub mod SetOf
 pub mod Walk
+pub mod Savable

@@ -1,4 +1,4 @@
--- Defines the lookup on any rows: rules, "Lookup". Assumes nothing.
+-- Defines the lookup on any rows: RULES, "Lookup in a table". Assumes nothing.
 use mathlib.Core.Bool.{Bool, cond, not, _&&_, _||_}
 use Prim.Native.Nat.{ℕ, zero, suc, _+_, _-_}
 use lib.Dec.{eqb, leb, ltb}

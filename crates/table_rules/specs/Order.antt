@@ -1,5 +1,4 @@
--- Defines the order of the trie's priority on values and lengths: rules, "The table", "the longest route of S, at equal length
--- the one with the smallest value". Assumes nothing.
+-- Defines who is to hold a place of the trie, on values and lengths: RULES, "The table". Assumes nothing.
 use mathlib.Core.Bool.{Bool, not, _&&_, _||_}
 use Prim.Native.Nat.{ℕ}
 use lib.Dec.{ltb}

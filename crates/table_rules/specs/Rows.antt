@@ -1,5 +1,5 @@
--- Defines rows as memory: rules, "A row is five 32-bit words: value, length, port, left row, right row". Where a row lies in
--- the words is no matter here: memory is a function from the row's number. Assumes nothing.
+-- Defines rows as memory, and layouts of rows: RULES, "The table". Where a row lies in the words is no matter here: memory is a
+-- function from the row's number. Assumes nothing.
 use mathlib.Core.Path.{_≡_}
 use mathlib.Core.Bool.{Bool, cond}
 use Prim.Native.Nat.{ℕ, _^_, _<_}

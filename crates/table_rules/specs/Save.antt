@@ -1,4 +1,4 @@
--- Defines the saving of a table as a list: rules, "Saving a table as a list: 11, then 9". Assumes nothing.
+-- Defines the saving of a table as a list: RULES, "Build and save". Assumes nothing.
 use mathlib.Core.Bool.{cond}
 use mathlib.Core.List.{List, [], _∷_, _++_}
 use Prim.Native.Nat.{ℕ, zero, suc, _*_}

@@ -1,4 +1,4 @@
--- Defines the set of routes that a trie holds: rules, "The table". Assumes nothing.
+-- Defines the set of routes that a trie holds: RULES, "The table". Assumes nothing.
 use mathlib.Core.Bool.{Bool}
 use mathlib.Core.List.{List, [], _∷_}
 use Prim.Native.Nat.{ℕ}

@@ -1,4 +1,4 @@
--- States what this layer is there for: rules, "The table". Proofs are in proofs/. Assumes nothing.
+-- States what this layer is there for: RULES, "The table". Proofs are in proofs/. Assumes nothing.
 use mathlib.Core.Path.{_≡_}
 use mathlib.Core.Logic.{_↔_}
 use mathlib.Core.Bool.{true, cond}

@@ -1,5 +1,5 @@
--- Defines the parts of the walks that check and save a table, as the code names them: rules, "A table is in good order if" and
--- "Saving a table as a list". Assumes nothing.
+-- Defines the parts of the walks that check and save a table, as the code names them: RULES, "Good order" and "Build and save".
+-- Assumes nothing.
 use mathlib.Core.Bool.{Bool, cond, not, _||_}
 use mathlib.Core.List.{List, []}
 use Prim.Native.Nat.{ℕ}

@@ -1,6 +1,5 @@
--- Defines how a route leaves the rows: rules, "Withdraw". "Where a route is taken out, the place it leaves is filled by the same
--- rule from below, down to a leaf that falls away. Other places keep their rows, except that row n-1, where it is not the one
--- freed, moves to the freed number and its parent follows. Row n-1 is then five zeros." Over any accessors of rows. Assumes nothing.
+-- Defines how a route leaves the rows: RULES, "Withdraw". The place it leaves is filled from below, down to a leaf that falls away;
+-- then the last row moves to the number that is free. Over any layout of rows. Assumes nothing.
 use mathlib.Core.Bool.{Bool, cond, _&&_}
 use Prim.Native.Nat.{ℕ, zero, suc, _-_}
 use lib.Dec.{eqb, ltb}

@@ -1,19 +1,20 @@
--- The listing of a table is that of its saved list, and so of the routes that it holds: rules, "The run listing". Assumes nothing.
-use mathlib.Core.Path.{_≡_, refl, sym, ap, _∙_}
+-- The listing of a table is that of its saved list, and so of the routes that it holds: RULES, "The run listing". Assumes nothing.
+use mathlib.Core.Path.{_≡_, refl, sym, ap, ap₂, _∙_}
 use mathlib.Core.Logic.{_⊎_, inl, inr}
 use mathlib.Core.Bool.{true, false}
-use mathlib.Core.List.{List}
+use mathlib.Core.List.{List, [], append-nil}
 use Prim.Native.Nat.{ℕ, _*_, _/_, _^_, _≤_, _<_}
 use native.Mathlib.Omega.{arith}
 use native.Mathlib.Nat.{min-le-left}
-use lib.ListN.{length, drop}
+use lib.ListN.{length, take, drop}
+use lib.Seq.{take-at}
 use borrow.Author.Tests.{le-leb}
 use Rattle.promise.specs.Over.{Outcome, outcome, over}
 use Rattle.bits.specs.Bits.{bits}
 use Rattle.lists.proofs.Tests.{way}
 use Rattle.trie.specs.Scan.{scan}
 use Rattle.routes.specs.Refusals.{notInOrder, mostRoutes, refused, accepted}
-use Rattle.routes.specs.Routes.{route, routeAt, ValidList, wordsOf}
+use Rattle.routes.specs.Routes.{route, routeSize, routeAt, wordsOf}
 use Rattle.routes.specs.Scan.{scanOf}
 use Rattle.routes.specs.declared.Answer.{Answer}
 use Rattle.table_rows.specs.Words.{rowCount}
@@ -28,16 +29,16 @@ use Rattle.table_rules.proofs.Save.{saved-is}
 use Rattle.table_rules.proofs.SavedLookup.{lookup-is-saved-scan}
 use Rattle.table_rules.proofs.Lookup.{lookup-is-scan}
 use Rattle.routes.specs.declared.found.Found.{Found}
-use Rattle.routes.proofs.Words.{get-words-at}
-use Rattle.runs_rules.specs.Runs.{Run}
-use Rattle.runs_rules.specs.Listing.{listed, mostRuns, writeRuns}
+use Rattle.routes.proofs.Words.{get-words-at, length-words}
+use Rattle.runs_rules.specs.Runs.{Run, runSize}
+use Rattle.runs_rules.specs.Listing.{listed, mostRuns, writeRuns, listRuns}
 use Rattle.runs_rules.proofs.Runs.{listing-unique}
-use Rattle.runs_rules.proofs.Listing.{listed-lists, never-too-many}
-use Rattle.runs_rules.proofs.Same.{listed-same, valid-same, lists-same}
+use Rattle.runs_rules.proofs.Listing.{listed-lists, list-runs-accepted, never-too-many}
+use Rattle.runs_rules.proofs.Same.{words-accepted, words-listed, lists-same}
 use Rattle.table_runs.specs.TableRuns.{tableRoutes, tableRuns}
 use Rattle.table_runs.specs.Theorems.{TableRunsDone, TableRunsRefused}
 
--- "Capacity is the smaller of 4,096 and the number of whole rows lent."
+-- "The capacity is the number of whole rows lent, but at most 4,096."
 pub capacity-le : (words : List ℕ) → capacityOf words ≤ mostRoutes
 capacity-le words = min-le-left mostRoutes (rowCount words)
 
@@ -56,17 +57,30 @@ module _ (w capacity : ℕ) (M : Mem) (n : ℕ) (small : capacity ≤ mostRoutes
   well : SavedWell w (saved w M n) n (good .0)
   well = saved-is w capacity M n (good .0) (good .1) few
 
-  save-done : (list : List ℕ) → length list ≡ mostRoutes * 3
+  save-done : (list : List ℕ) → length list ≡ mostRoutes * routeSize
       → saveInto w capacity M n list ≡ outcome (accepted n) (over (wordsOf (saved w M n)) list)
   unfolding saveInto
-  save-done list size = rw (fine, le-leb (n * 3) (length list) (omega (arith, few, size)))
+  save-done list size = rw (fine, le-leb (n * routeSize) (length list) (omega (arith, few, size)))
 
-  routes-are : (list : List ℕ) (i : ℕ) → i < n → tableRoutes w M n i ≡ routeAt (over (wordsOf (saved w M n)) list) i
-  routes-are list i h =
-      sym (get-words-at (saved w M n) (drop (length (wordsOf (saved w M n))) list) i (route 0 0 0) (omega (arith, well .size)))
+  -- the words of its routes
+  abbrev words : List ℕ
+  words = wordsOf (saved w M n)
+
+  length-saved : length words ≡ n * routeSize
+  length-saved = length-words (saved w M n) ∙ ap (λ (k : ℕ). k * routeSize) (well .size)
+
+  saved-routes : (i : ℕ) → i < n → tableRoutes w M n i ≡ routeAt words i
+  saved-routes i h =
+      sym (get-words-at (saved w M n) [] i (route 0 0 0) (omega (arith, well .size)))
+      ∙ ap (λ (ws : List ℕ). routeAt ws i) (append-nil words)
+
+  list-runs-saved : (lent : List ℕ) → listRuns w words lent ≡ writeRuns (listed w (tableRoutes w M n) n) lent
+  list-runs-saved lent =
+      list-runs-accepted w words lent (ap (λ (x : Answer). x .number) (words-accepted w (tableRoutes w M n) n words length-saved saved-routes (well .list)))
+      ∙ ap (λ (rs : List Run). writeRuns rs lent) (words-listed w (tableRoutes w M n) n words length-saved saved-routes)
 
 -- what the saving of a table into room for 4,096 routes answers and leaves
-module _ (w capacity : ℕ) (M : Mem) (n : ℕ) (small : capacity ≤ mostRoutes) (list : List ℕ) (size : length list ≡ mostRoutes * 3)
+module _ (w capacity : ℕ) (M : Mem) (n : ℕ) (small : capacity ≤ mostRoutes) (list : List ℕ) (size : length list ≡ mostRoutes * routeSize)
     {left : List ℕ} {a : Answer} (is : outcome a left ≡ saveInto w capacity M n list) where
   answer-good : isGood w capacity M n ≡ true → outcome a left ≡ outcome (accepted n) (over (wordsOf (saved w M n)) list)
   answer-good fine = is ∙ save-done w capacity M n small fine list size
@@ -97,20 +111,20 @@ module _ (w capacity : ℕ) (M : Mem) (n : ℕ) (small : capacity ≤ mostRoutes
     count : a .count ≡ n
     count = ap (λ (o : Outcome Answer). o .answer .count) (answer-good (is-good z))
 
-    same : (i : ℕ) → i < n → tableRoutes w M n i ≡ routeAt left i
-    same i h =
-        routes-are w capacity M n small (is-good z) list i h
-        ∙ ap (λ (ws : List ℕ). routeAt ws i) (sym (ap (λ (o : Outcome Answer). o .lent) (answer-good (is-good z))))
+    pub count-le : a .count ≤ mostRoutes
+    count-le = omega (arith, count, few w capacity M n small (is-good z))
 
-    pub saved-valid : ValidList w (routeAt left) (a .count)
-    saved-valid = rw count (valid-same w (tableRoutes w M n) (routeAt left) n same (well w capacity M n small (is-good z) .list))
+    -- the part of the list that was saved
+    part : take (a .count * routeSize) left ≡ wordsOf (saved w M n)
+    part =
+        ap₂ (λ (k : ℕ) (ws : List ℕ). take (k * routeSize) ws) count (ap (λ (o : Outcome Answer). o .lent) (answer-good (is-good z)))
+        ∙ take-at (wordsOf (saved w M n)) (drop (length (wordsOf (saved w M n))) list) (n * routeSize) (length-saved w capacity M n small (is-good z))
 
-    pub saved-listed : (lent : List ℕ) {o : Outcome Answer} → o ≡ writeRuns (listed w (routeAt left) (a .count)) lent
+    pub saved-listed : (lent : List ℕ) {o : Outcome Answer} → o ≡ listRuns w (take (a .count * routeSize) left) lent
         → o ≡ tableRuns w capacity M n lent
     unfolding tableRuns
     saved-listed lent e =
-        e ∙ ap (λ (k : ℕ). writeRuns (listed w (routeAt left) k) lent) count
-        ∙ ap (λ (rs : List Run). writeRuns rs lent) (sym (listed-same w (tableRoutes w M n) (routeAt left) n same))
+        e ∙ ap (λ (ws : List ℕ). listRuns w ws lent) part ∙ list-runs-saved w capacity M n small (is-good z) lent
         ∙ sym (rw (is-good z) refl)
 
 pub table-runs-done : TableRunsDone
@@ -118,7 +132,7 @@ unfolding tableRuns writeRuns
 table-runs-done w capacity M n S lent rs good small lists room =
     rw (check-is-good w capacity M n .1 (S, good))
     (ap (λ (qs : List Run). writeRuns qs lent) (sym is-listed)
-    ∙ rw (le-leb (length rs) mostRuns few-runs, le-leb (length rs) (length lent / 3) (omega (arith, room))) refl)
+    ∙ rw (le-leb (length rs) mostRuns few-runs, le-leb (length rs) (length lent / runSize) (omega (arith, room))) refl)
   where
     w-saved : SavedWell w (saved w M n) n S
     w-saved = saved-is w capacity M n S good (omega (arith, good .few))

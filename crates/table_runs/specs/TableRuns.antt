@@ -1,5 +1,4 @@
--- Defines the run listing of a table: rules, "From a valid list, or a table in good order"; "list checks or 11, then 13, then 9".
--- Assumes nothing.
+-- Defines the run listing of a table: RULES, "The run listing", "Order of the checks". Assumes nothing.
 use mathlib.Core.Bool.{cond}
 use mathlib.Core.List.{List}
 use Prim.Native.Nat.{ℕ}

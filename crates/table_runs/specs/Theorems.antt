@@ -1,4 +1,4 @@
--- States what this layer is there for: rules, "The run listing", of a table. Proofs are in proofs/. Assumes nothing.
+-- States what this layer is there for: RULES, "The run listing", of a table. Proofs are in proofs/. Assumes nothing.
 use mathlib.Core.Path.{_≡_}
 use mathlib.Core.Bool.{false}
 use mathlib.Core.List.{List}
@@ -12,7 +12,7 @@ use Rattle.routes.specs.Refusals.{notInOrder, mostRoutes, refused, accepted}
 use Rattle.table_rules.specs.Rows.{Mem}
 use Rattle.table_rules.specs.Holds.{GoodFor}
 use Rattle.table_rules.specs.Check.{isGood}
-use Rattle.runs_rules.specs.Runs.{Run, Lists, runWords}
+use Rattle.runs_rules.specs.Runs.{Run, Lists, runSize, runWords}
 use Rattle.table_runs.specs.TableRuns.{tableRuns}
 
 -- a table in good order with room for its runs: the words of THE listing of the plain scan of just the routes it holds, what
@@ -20,10 +20,10 @@ use Rattle.table_runs.specs.TableRuns.{tableRuns}
 abbrev pub TableRunsDone : Type 0
 TableRunsDone =
     (w capacity : ℕ) (M : Mem) (n : ℕ) (S : Routes) (lent : List ℕ) (rs : List Run) → GoodFor w capacity M n S → capacity ≤ mostRoutes
-    → Lists (λ a. scan S (bits w a)) (2 ^ w) 0 rs → length rs * 3 ≤ length lent
+    → Lists (λ a. scan S (bits w a)) (2 ^ w) 0 rs → length rs * runSize ≤ length lent
     → tableRuns w capacity M n lent ≡ outcome (accepted (length rs)) (over (runWords rs) lent)
 
--- "11 | table not in good order", and no lent memory is written
+-- 11: "the table is not in good order", and no lent memory is written
 abbrev pub TableRunsRefused : Type 0
 TableRunsRefused =
     (w capacity : ℕ) (M : Mem) (n : ℕ) (lent : List ℕ) → isGood w capacity M n ≡ false

@@ -3,20 +3,25 @@ ghost use mathlib.Core.Path.{_≡_};
 ghost use Rattle.promise.specs.Over.{outcome};
 ghost use Rattle.table_rows.specs.Words.{capacity, rowAt};
 ghost use Rattle.table_runs.specs.TableRuns.{tableRuns};
-use list_runs::write_runs;
+use list_runs::list_runs;
 use routes::Answer;
+use routes::ROUTE_SIZE;
+use routes::refusal::MOST_ROUTES;
 use table_save::save;
+
+// The words of as many routes as a table can have.
+const LIST_SIZE: usize = MOST_ROUTES * ROUTE_SIZE;
 
 // The run listing of a table of n rows: three words a run, first address, last address, port; and their number. Refuses 11
 // where the table is not in good order, then 13, more than 8,193 runs, then 9, no room for them, all at place 0.
 pub fn table_runs(rows: &[u32], n: u32, runs: &mut [u32]) -> Answer
     ensures { λ r. ⌜ outcome r (now (runs .exit)) ≡ tableRuns 32 (capacity (now (rows .entry))) (rowAt (now (rows .entry))) n (now (runs .entry)) ⌝ }
 {
-    // Room for as many routes as a table can have: 4,096.
-    let mut list = [0u32; 12288];
+    let mut list = [0u32; LIST_SIZE];
     let saved = save(rows, n, &mut list);
     if saved.number != 0 {
         return saved;
     }
-    write_runs(&list, saved.count as usize, runs)
+    let size = saved.count as usize * ROUTE_SIZE;
+    list_runs(&list[..size], runs)
 }

@@ -13,7 +13,7 @@ use Rattle.table_rules.specs.Save.{insertRoute}
 use Rattle.table_rules.specs.Ascending.{Ascending}
 use Rattle.table_rules.proofs.Ascending.{ascending-front, insert-after, insert-among, length-insert}
 use Rattle.routes.proofs.Words.{length-words, words-append, get-words, store-words}
-use Rattle.table_save.specs.Writing.{standsBefore, sunk}
+use Rattle.table_save.specs.Writing.{routeBefore, sunk}
 
 module _ (P Q : List ℕ) (at : ℕ) (isP : length P ≡ at * 3) (q : Route) (B : List Route) (rises : Ascending B) where
   -- the words where m routes stand, then a route whose place is free, then those that moved up
@@ -25,7 +25,6 @@ module _ (P Q : List ℕ) (at : ℕ) (isP : length P ≡ at * 3) (q : Route) (B 
 
   apart : (A : List Route) (h : Route) (C : List Route)
       → P ++ (wordsOf (A ++ (h ∷ C)) ++ Q) ≡ P ++ wordsOf A ++ (routeWords h ++ (wordsOf C ++ Q))
-  unfolding wordsOf
   apart A h C =
       ap (λ (ws : List ℕ). P ++ (ws ++ Q)) (words-append A (h ∷ C))
       ∙ ap (λ (ws : List ℕ). P ++ ws) (append-assoc (wordsOf A) (routeWords h ++ wordsOf C) Q)
@@ -68,7 +67,7 @@ module _ (P Q : List ℕ) (at : ℕ) (isP : length P ≡ at * 3) (q : Route) (B 
     all-rise =
         subst Ascending is-all (ascending-front (take (suc m) B) (drop (suc m) B) (subst Ascending (sym (take-append-drop (suc m) B)) rises))
 
-    sinks-here : standsBefore (last m) q ≡ true
+    sinks-here : routeBefore (last m) q ≡ true
         → storeRoute (words (suc m) h C) (at + suc m) q ≡ P ++ (wordsOf (insertRoute q (take (suc m) B) ++ C) ++ Q)
     sinks-here t =
         put-free (suc m) h q C l
@@ -77,7 +76,7 @@ module _ (P Q : List ℕ) (at : ℕ) (isP : length P ≡ at * 3) (q : Route) (B 
         ∙ sym (append-assoc all (q ∷ []) C)
         ∙ ap (λ (A : List Route). A ++ C) (sym (insert-after q (last m) (take m B) all-rise t) ∙ ap (insertRoute q) (sym is-all)))
 
-    sinks-on : Sinks m → standsBefore (last m) q ≡ false
+    sinks-on : Sinks m → routeBefore (last m) q ≡ false
         → sunk (storeRoute (words (suc m) h C) (at + suc m) (last m)) at m q ≡ P ++ (wordsOf (insertRoute q (take (suc m) B) ++ C) ++ Q)
     sinks-on ih t =
         ap (λ (ws : List ℕ). sunk ws at m q)
@@ -90,11 +89,11 @@ module _ (P Q : List ℕ) (at : ℕ) (isP : length P ≡ at * 3) (q : Route) (B 
     sinks-more : Sinks m → sunk (words (suc m) h C) at (suc m) q ≡ P ++ (wordsOf (insertRoute q (take (suc m) B) ++ C) ++ Q)
     unfolding sunk
     sinks-more ih =
-        ap (λ (r : Route). cond (standsBefore r q) (storeRoute (words (suc m) h C) (at + suc m) q) (sunk (storeRoute (words (suc m) h C) (at + suc m) r) at m q))
+        ap (λ (r : Route). cond (routeBefore r q) (storeRoute (words (suc m) h C) (at + suc m) q) (sunk (storeRoute (words (suc m) h C) (at + suc m) r) at m q))
         (get-last m h C l)
-        ∙ go (standsBefore (last m) q) refl
+        ∙ go (routeBefore (last m) q) refl
       where
-        go : (b : Bool) → standsBefore (last m) q ≡ b
+        go : (b : Bool) → routeBefore (last m) q ≡ b
             → cond b (storeRoute (words (suc m) h C) (at + suc m) q) (sunk (storeRoute (words (suc m) h C) (at + suc m) (last m)) at m q)
             ≡ P ++ (wordsOf (insertRoute q (take (suc m) B) ++ C) ++ Q)
         go true t = sinks-here t
@@ -115,7 +114,6 @@ drop-three ws j h =
 -- routes that were written, with one more put into its place among them
 pub sunk-is : (ws : List ℕ) (at : ℕ) (q : Route) (B : List Route) → Ascending B → (at + length B) * 3 + 3 ≤ length ws
     → sunk (sets ws (at * 3) (wordsOf B)) at (length B) q ≡ sets ws (at * 3) (wordsOf (insertRoute q B))
-unfolding wordsOf
 sunk-is ws at q B rises room =
     ap (λ (l : List ℕ). sunk l at (length B) q) start
     ∙ sinks P Q at (length-take-le (at * 3) ws (omega arith)) q B rises (length B) h [] (omega arith)
@@ -167,7 +165,7 @@ sinking-last words at i q e =
 
 -- r is the route before place i, b whether it stands before q
 module _ (words : List ℕ) (at i : ℕ) (q : Route) (more : at < i) (r : Route) (is : r ≡ routeAt words (i - 1))
-    (b : Bool) (eb : b ≡ standsBefore r q) where
+    (b : Bool) (eb : b ≡ routeBefore r q) where
   by-last : sunk words at (i - at) q ≡ cond b (storeRoute words i q) (sunk (storeRoute words i r) at (i - 1 - at) q)
   unfolding sunk
   by-last =
@@ -175,7 +173,7 @@ module _ (words : List ℕ) (at i : ℕ) (q : Route) (more : at < i) (r : Route)
       let j : at + (i - 1 - at) ≡ i - 1 = omega arith in
       let l : at + suc (i - 1 - at) ≡ i = omega arith in
       ap (λ (m : ℕ). sunk words at m q) k
-      ∙ ap₂ (λ (x : Route) (y : ℕ). cond (standsBefore x q) (storeRoute words y q) (sunk (storeRoute words y x) at (i - 1 - at) q))
+      ∙ ap₂ (λ (x : Route) (y : ℕ). cond (routeBefore x q) (storeRoute words y q) (sunk (storeRoute words y x) at (i - 1 - at) q))
       (ap (routeAt words) j ∙ sym is) l
       ∙ ap (λ (t : Bool). cond t (storeRoute words i q) (sunk (storeRoute words i r) at (i - 1 - at) q)) (sym eb)
 

@@ -19,17 +19,17 @@ use Rattle.routes.specs.Routes.{wordsOf, storeRoute}
 use Rattle.table_rules.specs.declared.Row.{Row}
 use Rattle.table_rules.specs.Walk.{savedBelow}
 use Rattle.table_rules.specs.Ascending.{Ascending}
-use Rattle.table_rules.specs.Ready.{Ready}
+use Rattle.table_rules.specs.Savable.{Savable}
 use Rattle.table_rules.proofs.Good.{check-is-good}
-use Rattle.table_rules.proofs.Save.{good-ready, saved-is}
+use Rattle.table_rules.proofs.Save.{good-savable, saved-is}
 use Rattle.table_rules.proofs.Ascending.{length-insert}
 use Rattle.routes.proofs.Words.{length-words, words-append, store-sets}
 use Rattle.lists.proofs.Sets.{sets-append}
-use Rattle.table_save.specs.Writing.{sunk, Wrote}
+use Rattle.table_save.specs.Writing.{sunk, WroteRoutes}
 use Rattle.table_save.proofs.Insertion.{sunk-is}
 
-pub ready-row : (M : Mem) (room k r : ℕ) → Ready M room k r → r < room
-unfolding Ready
+pub ready-row : (M : Mem) (room k r : ℕ) → Savable M room k r → r < room
+unfolding Savable
 ready-row M room zero r h = h
 ready-row M room (suc k) r h = h .0
 
@@ -44,8 +44,7 @@ pub size-last : (M : Mem) (k r : ℕ) → k ≡ 0 → length (savedAt M k r) ≡
 size-last M k r z = ap length (saved-last M k r z)
 
 pub wrote-last : (M : Mem) (k r at : ℕ) (x : Row) (q : Route) (lent left : List ℕ) → k ≡ 0 → x ≡ M r → q ≡ routeOf x
-    → at * 3 + 3 ≤ length lent → left ≡ storeRoute lent at q → Wrote (savedAt M k r) at (at + 1) lent left
-unfolding wordsOf
+    → at * 3 + 3 ≤ length lent → left ≡ storeRoute lent at q → WroteRoutes (savedAt M k r) at (at + 1) lent left
 wrote-last M k r at x q lent left z is eq room e = record {
   end = sym (ap (λ (n : ℕ). at + n) (size-last M k r z));
   words =
@@ -70,25 +69,25 @@ size-more M k r x ne is =
     ∙ length-insert (routeOf x) (savedBelow M (k - 1) (x .left) ++ savedBelow M (k - 1) (x .right))
     ∙ omega (arith, length-append (savedBelow M (k - 1) (x .left)) (savedBelow M (k - 1) (x .right)))
 
-ready-rises : (M : Mem) (room k r : ℕ) (x : Row) → (k ≡ 0 → ⊥) → x ≡ M r → Ready M room k r
+ready-rises : (M : Mem) (room k r : ℕ) (x : Row) → (k ≡ 0 → ⊥) → x ≡ M r → Savable M room k r
     → Ascending (savedBelow M (k - 1) (x .left) ++ savedBelow M (k - 1) (x .right))
-unfolding Ready
+unfolding Savable
 ready-rises M room zero r x ne is h = absurd (ne refl)
 ready-rises M room (suc k) r x ne is h =
     let e : suc k - 1 ≡ k = omega arith in
     rw e (subst (λ (y : Row). Ascending (savedBelow M k (y .left) ++ savedBelow M k (y .right))) (sym is) (h .1))
 
-pub ready-child : (M : Mem) (room k r : ℕ) (x : Row) → (k ≡ 0 → ⊥) → x ≡ M r → Ready M room k r
-    → (b : Bool) → 0 < child x b → Ready M room (k - 1) (child x b)
-unfolding Ready
-ready-child M room zero r x ne is h = absurd (ne refl)
-ready-child M room (suc k) r x ne is h =
+pub savable-child : (M : Mem) (room k r : ℕ) (x : Row) → (k ≡ 0 → ⊥) → x ≡ M r → Savable M room k r
+    → (b : Bool) → 0 < child x b → Savable M room (k - 1) (child x b)
+unfolding Savable
+savable-child M room zero r x ne is h = absurd (ne refl)
+savable-child M room (suc k) r x ne is h =
     let e : suc k - 1 ≡ k = omega arith in
-    rw e (subst (λ (y : Row). (b : Bool) → 0 < child y b → Ready M room k (child y b)) (sym is) (h .2))
+    rw e (subst (λ (y : Row). (b : Bool) → 0 < child y b → Savable M room k (child y b)) (sym is) (h .2))
 
 -- two stretches of routes written one after the other are one
-wrote-both : (xs ys : List Route) (at middle end : ℕ) (lent mid left : List ℕ) → Wrote xs at middle lent mid → Wrote ys middle end mid left
-    → Wrote (xs ++ ys) at end lent left
+wrote-both : (xs ys : List Route) (at middle end : ℕ) (lent mid left : List ℕ) → WroteRoutes xs at middle lent mid → WroteRoutes ys middle end mid left
+    → WroteRoutes (xs ++ ys) at end lent left
 wrote-both xs ys at middle end lent mid left h k = record {
   end = k .end ∙ omega (arith, h .end, length-append xs ys);
   words =
@@ -101,9 +100,9 @@ wrote-both xs ys at middle end lent mid left h k = record {
 
 -- The code's values: `middle` and `end` are where the sides ended, `mid` and `low` the list then, q the row's route.
 pub wrote-more : (M : Mem) (room k r at : ℕ) (x : Row) (middle end : ℕ) (lent mid low left : List ℕ) (q : Route)
-    → (k ≡ 0 → ⊥) → x ≡ M r → Ready M room k r → (at + length (savedAt M k r)) * 3 ≤ length lent
-    → Wrote (savedBelow M (k - 1) (x .left)) at middle lent mid → Wrote (savedBelow M (k - 1) (x .right)) middle end mid low
-    → q ≡ routeOf x → left ≡ sunk low at (end - at) q → Wrote (savedAt M k r) at (end + 1) lent left
+    → (k ≡ 0 → ⊥) → x ≡ M r → Savable M room k r → (at + length (savedAt M k r)) * 3 ≤ length lent
+    → WroteRoutes (savedBelow M (k - 1) (x .left)) at middle lent mid → WroteRoutes (savedBelow M (k - 1) (x .right)) middle end mid low
+    → q ≡ routeOf x → left ≡ sunk low at (end - at) q → WroteRoutes (savedAt M k r) at (end + 1) lent left
 wrote-more M room k r at x middle end lent mid low left q ne is ready room-for wl wr eq e = record {
   end = omega (arith, both .end, length-append L R, size-more M k r x ne is);
   words =
@@ -121,7 +120,7 @@ wrote-more M room k r at x middle end lent mid low left q ne is ready room-for w
     R : List Route
     R = savedBelow M (k - 1) (x .right)
 
-    both : Wrote (L ++ R) at end lent low
+    both : WroteRoutes (L ++ R) at end lent low
     both = wrote-both L R at middle end lent mid low wl wr
 
     count : end - at ≡ length (L ++ R)
@@ -129,17 +128,16 @@ wrote-more M room k r at x middle end lent mid low left q ne is ready room-for w
 
 -- the routes below a row on one side
 
-pub wrote-none : (M : Mem) (k c at : ℕ) (lent : List ℕ) → c ≡ 0 → Wrote (savedBelow M k c) at at lent lent
-unfolding wordsOf
+pub wrote-none : (M : Mem) (k c at : ℕ) (lent : List ℕ) → c ≡ 0 → WroteRoutes (savedBelow M k c) at at lent lent
 wrote-none M k c at lent z =
-    subst (λ (b : Bool). Wrote (cond b [] (savedAt M k c)) at at lent lent) (sym (eq-eqb c 0 z)) (record { end = sym (add-zero at); words = refl })
+    subst (λ (b : Bool). WroteRoutes (cond b [] (savedAt M k c)) at at lent lent) (sym (eq-eqb c 0 z)) (record { end = sym (add-zero at); words = refl })
 
 pub below-is : (M : Mem) (k c : ℕ) → (c ≡ 0 → ⊥) → savedBelow M k c ≡ savedAt M k c
 below-is M k c ne = rw (ne-eqb c 0 ne)
 
-pub wrote-below : (M : Mem) (k c at next : ℕ) (lent left : List ℕ) → (c ≡ 0 → ⊥) → Wrote (savedAt M k c) at next lent left
-    → Wrote (savedBelow M k c) at next lent left
-wrote-below M k c at next lent left ne h = subst (λ (rs : List Route). Wrote rs at next lent left) (sym (below-is M k c ne)) h
+pub wrote-below : (M : Mem) (k c at next : ℕ) (lent left : List ℕ) → (c ≡ 0 → ⊥) → WroteRoutes (savedAt M k c) at next lent left
+    → WroteRoutes (savedBelow M k c) at next lent left
+wrote-below M k c at next lent left ne h = subst (λ (rs : List Route). WroteRoutes rs at next lent left) (sym (below-is M k c ne)) h
 
 -- the whole table
 
@@ -154,20 +152,20 @@ module _ (w capacity : ℕ) (M : Mem) (n : ℕ) (lent : List ℕ) where
     save-short h = rw (sym is ∙ good, lt-leb (n * 3) (length lent) h)
 
     pub save-none : n ≡ 0 → outcome (accepted 0) lent ≡ saveInto w capacity M n lent
-    unfolding saveInto wordsOf
+    unfolding saveInto
     save-none z = rw (sym is ∙ good, le-leb (n * 3) (length lent) (omega arith), eq-eqb n 0 z) (ap (λ (k : ℕ). outcome (accepted k) lent) (sym z))
 
     -- the rows may be written, n of them
-    pub save-ready : (n ≡ 0 → ⊥) → (room : ℕ) → capacity ≤ room → capacity ≤ mostRoutes → Ready M room w 0 × (length (savedAt M w 0) ≡ n)
+    pub save-ready : (n ≡ 0 → ⊥) → (room : ℕ) → capacity ≤ room → capacity ≤ mostRoutes → Savable M room w 0 × (length (savedAt M w 0) ≡ n)
     save-ready ne room le most =
         let g = check-is-good w capacity M n .0 (sym is ∙ good) in
         let few = g .1 .few in (
-          good-ready w capacity M n room (g .0) (g .1) (omega arith) (omega arith),
+          good-savable w capacity M n room (g .0) (g .1) (omega arith) (omega arith),
           sym (ap (λ (b : Bool). length (cond b [] (savedAt M w 0))) (ne-eqb n 0 ne)) ∙ saved-is w capacity M n (g .0) (g .1) (omega arith) .size,
         )
 
     pub save-done : (n ≡ 0 → ⊥) → n * 3 ≤ length lent → length (savedAt M w 0) ≡ n → (next : ℕ) (left : List ℕ)
-        → Wrote (savedAt M w 0) 0 next lent left → outcome (accepted n) left ≡ saveInto w capacity M n lent
+        → WroteRoutes (savedAt M w 0) 0 next lent left → outcome (accepted n) left ≡ saveInto w capacity M n lent
     unfolding saveInto
     save-done ne h size next left wrote =
         let rs : List Route = savedAt M w 0 in

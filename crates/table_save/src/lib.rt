@@ -9,8 +9,8 @@ ghost use Rattle.table_rules.specs.Rows.{routeOf};
 ghost use Rattle.table_rows.specs.Words.{rowCount, capacity, rowAt};
 ghost use Rattle.table_rules.specs.Save.{savedAt, saveInto};
 ghost use Rattle.table_rules.specs.Walk.{savedBelow};
-ghost use Rattle.table_rules.specs.Ready.{Ready};
-ghost use Rattle.table_save.specs.Writing.{sunk, Wrote};
+ghost use Rattle.table_rules.specs.Savable.{Savable};
+ghost use Rattle.table_save.specs.Writing.{sunk, WroteRoutes};
 ghost use Rattle.routes.specs.Routes.{storeRoute};
 use routes::Answer;
 use routes::Route;
@@ -50,8 +50,8 @@ fn sink_route(list: &mut [u32], at: usize, end: usize, q: Route)
 
 // Writes the routes from a row on, with `left` bits after its depth, from route `at` of the list on. Answers where it ended.
 fn save_at(rows: &[u32], left: u32, row: u32, list: &mut [u32], at: usize) -> usize
-    requires { ⌜ Ready (rowAt (now rows)) (rowCount (now rows)) left row × ((at + length (savedAt (rowAt (now rows)) left row)) * 3 ≤ length (now list)) ⌝ }
-    ensures { λ r. ⌜ Wrote (savedAt (rowAt (now (rows .entry))) left row) at r (now (list .entry)) (now (list .exit)) ⌝ }
+    requires { ⌜ Savable (rowAt (now rows)) (rowCount (now rows)) left row × ((at + length (savedAt (rowAt (now rows)) left row)) * 3 ≤ length (now list)) ⌝ }
+    ensures { λ r. ⌜ WroteRoutes (savedAt (rowAt (now (rows .entry))) left row) at r (now (list .entry)) (now (list .exit)) ⌝ }
 {
     let x = row_at(rows, row);
     if left == 0 {
@@ -66,8 +66,8 @@ fn save_at(rows: &[u32], left: u32, row: u32, list: &mut [u32], at: usize) -> us
 
 // The routes below a row on one side; 0 as a child means none.
 fn save_below(rows: &[u32], left: u32, child: u32, list: &mut [u32], at: usize) -> usize
-    requires { ⌜ (0 < child → Ready (rowAt (now rows)) (rowCount (now rows)) left child) × ((at + length (savedBelow (rowAt (now rows)) left child)) * 3 ≤ length (now list)) ⌝ }
-    ensures { λ r. ⌜ Wrote (savedBelow (rowAt (now (rows .entry))) left child) at r (now (list .entry)) (now (list .exit)) ⌝ }
+    requires { ⌜ (0 < child → Savable (rowAt (now rows)) (rowCount (now rows)) left child) × ((at + length (savedBelow (rowAt (now rows)) left child)) * 3 ≤ length (now list)) ⌝ }
+    ensures { λ r. ⌜ WroteRoutes (savedBelow (rowAt (now (rows .entry))) left child) at r (now (list .entry)) (now (list .exit)) ⌝ }
 {
     if child == 0 {
         return at;

@@ -1,4 +1,4 @@
--- Defines the calls that change a table, on its words: rules, "Announce", "Withdraw" and the order of their refusals. Assumes nothing.
+-- Defines the calls that change a table, on its words: RULES, "Announce", "Withdraw" and the order of their refusals. Assumes nothing.
 use mathlib.Core.Bool.{Bool, cond}
 use mathlib.Core.List.{List}
 use Prim.Native.Nat.{ℕ, zero, suc, _+_, _-_}

@@ -1,4 +1,4 @@
--- Defines when the first k routes of a list fill lent rows: rules, "Building a table from a list". Assumes nothing.
+-- Defines when the first k routes of a list fill lent rows: RULES, "Build and save". Assumes nothing.
 use mathlib.Core.List.{List}
 use Prim.Native.Nat.{ℕ, _≤_}
 use Rattle.routes.specs.Routes.{ValidList}

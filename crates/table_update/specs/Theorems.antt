@@ -1,4 +1,4 @@
--- States what this layer is there for: rules, "Announce", "Withdraw", and demand 3. Proofs are in proofs/. Assumes nothing.
+-- States what this layer is there for: RULES, "Announce", "Withdraw", and demand 3. Proofs are in proofs/. Assumes nothing.
 use mathlib.Core.Path.{_≡_}
 use mathlib.Core.Bool.{false, cond}
 use mathlib.Core.List.{List, map}

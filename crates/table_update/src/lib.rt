@@ -92,7 +92,7 @@ pub fn withdraw(rows: &mut [u32], n: u32, value: u32, len: u32) -> Answer
     keeping(NOT_IN_ORDER, n)
 }
 
-// The first k routes of a valid list, each announced into the table of those before it.
+// The first k routes of a list, each announced into the table of those before it.
 fn fill(list: &[u32], rows: &mut [u32], k: u32)
     ensures { λ _. ⌜ now (rows .exit) ≡ builtFrom fiveWords 32 (routeAt (now (list .entry))) k 0 (now (rows .entry)) ⌝ }
 {

@@ -1,4 +1,4 @@
--- Defines a route, a set of routes and how calls change it: rules, "A route is a prefix and a port". Assumes nothing.
+-- Defines a route, a set of routes and how calls change it: RULES, "Addresses and prefixes". Assumes nothing.
 use mathlib.Core.Path.{_≡_}
 use mathlib.Core.Bool.{Bool, cond}
 use mathlib.Core.List.{List, [], _∷_, List·Memᴰ}

@@ -1,4 +1,4 @@
--- Defines the plain scan, over a list and over a set: rules, "Plain scan". Assumes nothing.
+-- Defines the plain scan, over a list and over a set: RULES, "The plain scan". Assumes nothing.
 use mathlib.Core.Bool.{Bool, cond, _&&_}
 use mathlib.Core.List.{List, [], _∷_}
 use Prim.Native.Nat.{ℕ, zero, suc, _+_}

@@ -1,4 +1,4 @@
--- States what this layer is there for: rules, "Plain scan" and "The table". Proofs are in proofs/. Assumes nothing.
+-- States what this layer is there for: RULES, "The plain scan" and "The table". Proofs are in proofs/. Assumes nothing.
 use mathlib.Core.Path.{_≡_}
 use mathlib.Core.Bool.{Bool, true, false}
 use mathlib.Core.Logic.{_⊎_}

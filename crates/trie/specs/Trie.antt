@@ -1,6 +1,5 @@
--- Defines the priority trie, its rule and its lookup: rules, "The table". Source document 004 stores a flag in each node; here a
--- node has the bits of its prefix BELOW its own path, so it is ordinary exactly if it has none. Neither depth nor width occurs.
--- Assumes nothing.
+-- Defines the priority trie, its rule and its lookup: RULES, "The table". No flag tells a priority node from an ordinary one: a node has
+-- the bits of its prefix BELOW its own path, and is ordinary exactly if it has none. Neither depth nor width occurs. Assumes nothing.
 use mathlib.Core.Path.{_≡_}
 use mathlib.Core.Bool.{Bool, true, false, cond, _&&_, _||_}
 use mathlib.Core.List.{List, [], _∷_}

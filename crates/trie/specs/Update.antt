@@ -1,4 +1,4 @@
--- Defines how a trie takes a route in and gives one back: rules, "Announce" and "Withdraw". Assumes nothing.
+-- Defines how a trie takes a route in and gives one back: RULES, "Announce" and "Withdraw". Assumes nothing.
 use mathlib.Core.Bool.{Bool, true, false, cond}
 use mathlib.Core.List.{List, [], _∷_}
 use Prim.Native.Nat.{ℕ}
@@ -14,7 +14,7 @@ down false (true ∷ x) c f = c
 down true (false ∷ x) c f = c
 down true (true ∷ x) c f = f x
 
--- "A prefix already held gets the new port." A new one takes the place that it is outranks, and the old holder goes on down.
+-- "A prefix already held gets the new port." A new one takes the place of a holder that it outranks, who goes on down.
 abbrev pub insert : Bits → ℕ → Trie → Trie
 insert q p leaf = node q p (λ b. leaf)
 insert q p (node s o c) =

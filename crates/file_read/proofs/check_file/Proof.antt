@@ -46,14 +46,14 @@ loop-less c =
     let l = t .before .before .before .before .before in
     let file = l .before .before .before .before .args .file .now in
     let s = t .before .before in
-    omega (arith, reached-more 32 file (l .loop .c) (l .loop .inv) _ _ (sym (s .step-at .ensures) ∙ t .step .given .1) .1, s .before .if2 .taken)
+    omega (arith, reached-more 32 file (l .loop .c) (l .loop .inv) _ (sym (s .step-at .ensures) ∙ t .step .given .1) .1, s .before .if2 .taken)
 
 loop-again : tie.Need-loop-again Inv-loop μ-loop
 loop-again c =
     let t = c .before in
     let l = t .before .before .before .before .before in
     let file = l .before .before .before .before .args .file .now in
-    reached-more 32 file (l .loop .c) (l .loop .inv) _ _ (sym (t .before .before .step-at .ensures) ∙ t .step .given .1) .0
+    reached-more 32 file (l .loop .c) (l .loop .inv) _ (sym (t .before .before .step-at .ensures) ∙ t .step .given .1) .0
 
 enum-known-step-2 : tie.Need-enum-known-step-2 Inv-loop μ-loop
 enum-known-step-2 c = search needs

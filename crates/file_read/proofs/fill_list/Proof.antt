@@ -26,19 +26,16 @@ read-at-requires c κs =
 store-route-requires : tie.Need-store-route-requires Inv-loop μ-loop
 store-route-requires c κs = search needs
 
-prefix-bytes-requires : tie.Need-prefix-bytes-requires Inv-loop μ-loop
-prefix-bytes-requires c κs = search needs
+route-size-requires : tie.Need-route-size-requires Inv-loop μ-loop
+route-size-requires c κs = search needs
 
 add-at : tie.Need-add-at Inv-loop μ-loop
-add-at c = search needs
-
-add-at-2 : tie.Need-add-at-2 Inv-loop μ-loop
-add-at-2 c =
+add-at c =
     let x = c .before .before .before .before .before .before in
     let l = x .before .before in
     let s = l .before .before .before in
     let a = s .args in
-    omega (arith, filled-next 32 (a .file .now) (a .list .now) (a .n) (s .pre) _ _ _ (l .loop .inv) (x .before .loop-test .taken) _ _ (x .read-at .ensures) (c .prefix-bytes .ensures .is))
+    omega (arith, filled-next 32 (a .file .now) (a .list .now) (a .n) (s .pre) _ _ _ (l .loop .inv) (x .before .loop-test .taken) _ _ (x .read-at .ensures) (c .route-size .ensures .is))
 
 add-i : tie.Need-add-i Inv-loop μ-loop
 add-i c = omega arith
@@ -53,7 +50,7 @@ loop-again c =
     let l = x .before .before in
     let s = l .before .before .before in
     let a = s .args in
-    filled-more 32 (a .file .now) (a .list .now) (a .n) (s .pre) _ _ _ (l .loop .inv) (x .before .loop-test .taken) _ _ _ (x .read-at .ensures) (p .store-route .ensures) (c .prefix-bytes .ensures .is)
+    filled-more 32 (a .file .now) (a .list .now) (a .n) (s .pre) _ _ _ (l .loop .inv) (x .before .loop-test .taken) _ _ _ (x .read-at .ensures) (p .store-route .ensures) (c .route-size .ensures .is)
 
 same-length : tie.Need-same-length Inv-loop μ-loop
 same-length c = c .before .loop .inv .same
@@ -74,9 +71,8 @@ fill-list-spec =
     loop-holds
     read-at-requires
     store-route-requires
-    prefix-bytes-requires
+    route-size-requires
     add-at
-    add-at-2
     add-i
     loop-less
     loop-again

@@ -17,17 +17,14 @@ loop-holds c = summed-none 32 (c .before .args .list .now)
 route-at-requires : tie.Need-route-at-requires Inv-loop μ-loop
 route-at-requires c κs = search needs
 
-prefix-bytes-requires : tie.Need-prefix-bytes-requires Inv-loop μ-loop
-prefix-bytes-requires c κs = search needs
+route-size-requires : tie.Need-route-size-requires Inv-loop μ-loop
+route-size-requires c κs = search needs
 
 add-size : tie.Need-add-size Inv-loop μ-loop
-add-size c = search needs
-
-add-size-2 : tie.Need-add-size-2 Inv-loop μ-loop
-add-size-2 c =
+add-size c =
     let l = c .before .before .before in
     let s = l .before .before in
-    omega (arith, summed-small 32 (s .args .list .now) (s .pre) _ _ (l .loop .inv), c .prefix-bytes .ensures .small)
+    omega (arith, summed-small 32 (s .args .list .now) (s .pre) _ _ (l .loop .inv), c .route-size .ensures .small)
 
 add-i : tie.Need-add-i Inv-loop μ-loop
 add-i c = omega arith
@@ -39,7 +36,7 @@ loop-again : tie.Need-loop-again Inv-loop μ-loop
 loop-again c =
     let l = c .before .before .before in
     let s = l .before .before in
-    summed-more 32 (s .args .list .now) (s .pre) _ _ (l .loop .inv) (c .before .before .loop-test .taken) _ _ (c .before .route-at .ensures) (c .prefix-bytes .ensures .is)
+    summed-more 32 (s .args .list .now) (s .pre) _ _ (l .loop .inv) (c .before .before .loop-test .taken) _ _ (c .before .route-at .ensures) (c .route-size .ensures .is)
 
 returns : tie.Need-returns Inv-loop μ-loop
 returns c =
@@ -55,9 +52,8 @@ body-size-spec =
     μ-loop
     loop-holds
     route-at-requires
-    prefix-bytes-requires
+    route-size-requires
     add-size
-    add-size-2
     add-i
     loop-less
     loop-again

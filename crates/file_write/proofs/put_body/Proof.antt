@@ -26,18 +26,15 @@ put-bytes-requires c κs =
     let s = l .before .before .before in
     bodied-room 32 (s .args .list .now) (s .args .file .now) (s .pre) _ _ _ (l .loop .inv) (x .before .loop-test .taken) _ (x .route-at .ensures)
 
-prefix-bytes-requires : tie.Need-prefix-bytes-requires Inv-loop μ-loop
-prefix-bytes-requires c κs = search needs
+route-size-requires : tie.Need-route-size-requires Inv-loop μ-loop
+route-size-requires c κs = search needs
 
 add-at : tie.Need-add-at Inv-loop μ-loop
-add-at c = search needs
-
-add-at-2 : tie.Need-add-at-2 Inv-loop μ-loop
-add-at-2 c =
+add-at c =
     let x = c .before .before .before .before .before in
     let l = x .before .before in
     let s = l .before .before .before in
-    omega (arith, bodied-next 32 (s .args .list .now) (s .args .file .now) (s .pre) _ _ _ (l .loop .inv) (x .before .loop-test .taken) _ _ (x .route-at .ensures) (c .prefix-bytes .ensures .is), l .loop .inv .same)
+    omega (arith, bodied-next 32 (s .args .list .now) (s .args .file .now) (s .pre) _ _ _ (l .loop .inv) (x .before .loop-test .taken) _ _ (x .route-at .ensures) (c .route-size .ensures .is), l .loop .inv .same)
 
 add-i : tie.Need-add-i Inv-loop μ-loop
 add-i c = omega arith
@@ -51,7 +48,7 @@ loop-again c =
     let x = p .before .before in
     let l = x .before .before in
     let s = l .before .before .before in
-    bodied-more 32 (s .args .list .now) (s .args .file .now) (s .pre) _ _ _ (l .loop .inv) (x .before .loop-test .taken) _ _ _ (x .route-at .ensures) (c .prefix-bytes .ensures .is) (p .put-bytes .ensures)
+    bodied-more 32 (s .args .list .now) (s .args .file .now) (s .pre) _ _ _ (l .loop .inv) (x .before .loop-test .taken) _ _ _ (x .route-at .ensures) (c .route-size .ensures .is) (p .put-bytes .ensures)
 
 same-length : tie.Need-same-length Inv-loop μ-loop
 same-length c = c .before .loop .inv .same
@@ -71,9 +68,8 @@ put-body-spec =
     loop-holds
     route-at-requires
     put-bytes-requires
-    prefix-bytes-requires
+    route-size-requires
     add-at
-    add-at-2
     add-i
     loop-less
     loop-again

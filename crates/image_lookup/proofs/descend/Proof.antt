@@ -1,3 +1,4 @@
+use Rattle.image_nodes.proofs.Slots.{slots-found, slots-pos}
 use Rattle.image_lookup.proofs.Turns.{Going, going-none, going-more, stride-off, turn-outside, turn-wide, turn-leaf, turn-child, turn-none, shr-zero→lt, ones-le}
 use mathlib.Core.Path.{_∙_, sym, ap, refl}
 use native.Mathlib.Omega.{arith}
@@ -36,11 +37,12 @@ lost-requires c κs = search needs
 returns : tie.Need-returns Inv-loop μ-loop
 returns c =
     let x = c .before .before .before .before .before .before .before .before .before .args in
+    let q = c .before .before .before .before .before .before .before .before .before .pre in
     let l = c .before .before .before .before .before .loop in
     let n = c .before .before .before .before .before .before .slots-of in
     c .lost .ensures
     ∙ (sym (l .inv .same
-    ∙ turn-outside (x .stride) (n .result) (n .ensures .0) (now (x .nodes)) (now (x .ports)) (x .address) (l .at .0) (l .reads) (l .left)
+    ∙ turn-outside (x .stride) (n .result) (slots-found (n .ensures .0) q) (now (x .nodes)) (now (x .ports)) (x .address) (l .at .0) (l .reads) (l .left)
     (c .before .before .before .before .loop-test .taken) (omega (arith, c .before .before .before .node-count .ensures, c .before .if1 .taken))))
 
 add-reads : tie.Need-add-reads Inv-loop μ-loop
@@ -58,13 +60,14 @@ lost-requires-2 c κs = search needs
 returns-2 : tie.Need-returns-2 Inv-loop μ-loop
 returns-2 c =
     let x = c .before .before .before .before .before .before .before .before .before .before .before .args in
+    let q = c .before .before .before .before .before .before .before .before .before .before .before .pre in
     let l = c .before .before .before .before .before .before .before .loop in
     let n = c .before .before .before .before .before .before .before .before .slots-of in
     let b = c .before .before .bitmap-of in
     c .lost2 .ensures
     ∙ (sym (l .inv .same
-    ∙ turn-wide (x .stride) (n .result) (n .ensures .0) (now (x .nodes)) (now (x .ports)) (x .address) (l .at .0) (l .reads)
-    (record { some = l .inv .some; most = search needs }) (b .result) (b .ensures) (l .left)
+    ∙ turn-wide (x .stride) (n .result) (slots-found (n .ensures .0) q) (now (x .nodes)) (now (x .ports)) (x .address) (l .at .0) (l .reads)
+    (record { positive = l .inv .positive; within = search needs }) (b .result) (b .ensures) (l .left)
     (c .before .before .before .before .before .before .loop-test .taken) (c .before .if2 .taken)))
 
 mul-j : tie.Need-mul-j Inv-loop μ-loop
@@ -78,17 +81,17 @@ shr-j c =
     omega (arith, stride-off (x .stride) (c .before .before .before .before .before .before .loop .left) (c .before .before .before .before .before .loop-test .taken))
 
 rem-j : tie.Need-rem-j Inv-loop μ-loop
-rem-j c = search needs
+rem-j c = omega (arith, slots-pos (c .before .before .before .before .before .before .before .slots-of .ensures .0) (c .before .before .before .before .before .before .before .before .before .before .pre))
 
 ones-before-requires : tie.Need-ones-before-requires Inv-loop μ-loop
 ones-before-requires c κs =
     let n = c .before .before .before .before .before .before .before .slots-of in
-    record { few = n .ensures .2; within = mod-lt _ (n .ensures .1); small = shr-zero→lt _ _ (c .if2 .left) }
+    record { atMost16 = n .ensures .1; within = mod-lt _ (slots-pos (n .ensures .0) (c .before .before .before .before .before .before .before .before .before .before .pre)); noneAbove = shr-zero→lt _ _ (c .if2 .left) }
 
 is-leaf-requires : tie.Need-is-leaf-requires Inv-loop μ-loop
 is-leaf-requires c κs =
     let n = c .before .before .before .before .before .before .before .before .slots-of in
-    record { few = n .ensures .2; within = mod-lt _ (n .ensures .1); small = shr-zero→lt _ _ (c .before .if2 .left) }
+    record { atMost16 = n .ensures .1; within = mod-lt _ (slots-pos (n .ensures .0) (c .before .before .before .before .before .before .before .before .before .before .before .pre)); noneAbove = shr-zero→lt _ _ (c .before .if2 .left) }
 
 leaf-of-requires : tie.Need-leaf-of-requires Inv-loop μ-loop
 leaf-of-requires c κs = search needs
@@ -99,6 +102,7 @@ port-at-requires c κs = search needs
 returns-3 : tie.Need-returns-3 Inv-loop μ-loop
 returns-3 c =
     let x = c .before .before .before .before .before .before .before .before .before .before .before .before .before .before .before .args in
+    let q = c .before .before .before .before .before .before .before .before .before .before .before .before .before .before .before .pre in
     let l = c .before .before .before .before .before .before .before .before .before .before .before .loop in
     let n = c .before .before .before .before .before .before .before .before .before .before .before .before .slots-of in
     let b = c .before .before .before .before .before .before .bitmap-of in
@@ -106,8 +110,8 @@ returns-3 c =
     let t = c .before .before .before .is-leaf in
     c .port-at .ensures
     ∙ (sym (l .inv .same
-    ∙ turn-leaf (x .stride) (n .result) (n .ensures .0) (now (x .nodes)) (now (x .ports)) (x .address) (l .at .0) (l .reads)
-    (record { some = l .inv .some; most = search needs }) (b .result) (b .ensures) (c .before .before .before .before .before .if2 .left) (l .left)
+    ∙ turn-leaf (x .stride) (n .result) (slots-found (n .ensures .0) q) (now (x .nodes)) (now (x .ports)) (x .address) (l .at .0) (l .reads)
+    (record { positive = l .inv .positive; within = search needs }) (b .result) (b .ensures) (c .before .before .before .before .before .if2 .left) (l .left)
     (c .before .before .before .before .before .before .before .before .before .before .loop-test .taken) _ refl
     (o .result) (o .ensures) (t .result) (t .ensures) (c .before .before .if3 .taken) (c .before .leaf-of .result .0) (c .before .leaf-of .ensures)))
 
@@ -115,7 +119,7 @@ sub-child-of : tie.Need-sub-child-of Inv-loop μ-loop
 sub-child-of c =
     let n = c .before .before .before .before .before .before .before .before .before .before .slots-of in
     let o = c .before .before .ones-before in
-    omega (arith, ones-le _ _ _ (o .result) (o .ensures) (mod-lt _ (n .ensures .1)) (c .before .before .before .if2 .left))
+    omega (arith, ones-le _ _ _ (o .result) (o .ensures) (mod-lt _ (slots-pos (n .ensures .0) (c .before .before .before .before .before .before .before .before .before .before .before .before .before .pre))) (c .before .before .before .if2 .left))
 
 child-of-requires : tie.Need-child-of-requires Inv-loop μ-loop
 child-of-requires c κs = search needs
@@ -126,6 +130,7 @@ loop-less c = search needs
 loop-again : tie.Need-loop-again Inv-loop μ-loop
 loop-again c =
     let x = c .before .before .before .before .before .before .before .before .before .before .before .before .before .before .args in
+    let q = c .before .before .before .before .before .before .before .before .before .before .before .before .before .before .pre in
     let l = c .before .before .before .before .before .before .before .before .before .before .loop in
     let n = c .before .before .before .before .before .before .before .before .before .before .before .slots-of in
     let b = c .before .before .before .before .before .bitmap-of in
@@ -133,9 +138,9 @@ loop-again c =
     let t = c .before .before .is-leaf in
     let more = c .before .before .before .before .before .before .before .before .before .loop-test .taken in
     going-more 32 (x .stride) (now (x .nodes)) (now (x .ports)) (x .address) (l .left) (l .at .0) (l .reads) (c .child-of .result .0)
-    (l .inv) more (omega (arith, l .inv .some, c .child-of .ensures))
-    (turn-child (x .stride) (n .result) (n .ensures .0) (now (x .nodes)) (now (x .ports)) (x .address) (l .at .0) (l .reads)
-    (record { some = l .inv .some; most = search needs }) (b .result) (b .ensures) (c .before .before .before .before .if2 .left) (l .left)
+    (l .inv) more (omega (arith, l .inv .positive, c .child-of .ensures))
+    (turn-child (x .stride) (n .result) (slots-found (n .ensures .0) q) (now (x .nodes)) (now (x .ports)) (x .address) (l .at .0) (l .reads)
+    (record { positive = l .inv .positive; within = search needs }) (b .result) (b .ensures) (c .before .before .before .before .if2 .left) (l .left)
     more _ refl (o .result) (o .ensures) (t .result) (t .ensures) (c .before .if3 .left) (c .child-of .result .0) (c .child-of .ensures))
 
 lost-requires-3 : tie.Need-lost-requires-3 Inv-loop μ-loop
@@ -144,6 +149,7 @@ lost-requires-3 c κs = search needs
 returns-4 : tie.Need-returns-4 Inv-loop μ-loop
 returns-4 c =
     let x = c .before .before .before .before .before .before .args in
+    let q = c .before .before .before .before .before .before .pre in
     let l = c .before .before .loop in
     c .lost3 .ensures
     ∙ (sym (l .inv .same

@@ -8,17 +8,11 @@ use Rattle.list_runs.proofs.end_run.Tie as tie
 mul-at : tie.Need-mul-at
 mul-at c = search needs
 
-cast-runs : tie.Need-cast-runs
-cast-runs c = search needs
-
 mul-runs : tie.Need-mul-runs
 mul-runs c = search needs
 
 slice-write-runs : tie.Need-slice-write-runs
-slice-write-runs c = omega (arith, c .before .pre .3 (c .if1 .taken))
-
-cast-runs-2 : tie.Need-cast-runs-2
-cast-runs-2 c = search needs
+slice-write-runs c = omega (arith, c .before .pre .room (c .if1 .taken))
 
 add-runs : tie.Need-add-runs
 add-runs c = search needs
@@ -27,7 +21,7 @@ mul-runs-2 : tie.Need-mul-runs-2
 mul-runs-2 c = search needs
 
 slice-write-runs-2 : tie.Need-slice-write-runs-2
-slice-write-runs-2 c = simp length-set (omega (arith, c .before .pre .3 (c .if1 .taken)))
+slice-write-runs-2 c = simp length-set (omega (arith, c .before .pre .room (c .if1 .taken)))
 
 add-runs-2 : tie.Need-add-runs-2
 add-runs-2 c = search needs
@@ -36,7 +30,7 @@ mul-runs-3 : tie.Need-mul-runs-3
 mul-runs-3 c = search needs
 
 slice-write-runs-3 : tie.Need-slice-write-runs-3
-slice-write-runs-3 c = simp length-set (omega (arith, c .before .pre .3 (c .if1 .taken)))
+slice-write-runs-3 c = simp length-set (omega (arith, c .before .pre .room (c .if1 .taken)))
 
 add-result : tie.Need-add-result
 add-result c = search needs
@@ -45,7 +39,7 @@ same-length : tie.Need-same-length
 same-length c = search needs
 
 returns : tie.Need-returns
-returns c = (refl, rw (c .if1 .taken) refl)
+returns c = record { next-is = refl; written = rw (c .if1 .taken) refl }
 
 add-result-2 : tie.Need-add-result-2
 add-result-2 c = search needs
@@ -58,10 +52,8 @@ end-run-spec =
     tie.close
     (tie.spec
     mul-at
-    cast-runs
     mul-runs
     slice-write-runs
-    cast-runs-2
     add-runs
     mul-runs-2
     slice-write-runs-2

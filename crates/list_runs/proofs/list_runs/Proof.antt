@@ -1,5 +1,5 @@
 use native.Mathlib.Omega.{arith}
-use Rattle.list_runs.proofs.Answers.{list-runs-refused, list-runs-valid, list-runs-accepted}
+use Rattle.list_runs.proofs.Answers.{list-runs-checked, list-runs-valid, list-runs-listed}
 use borrow.Author.Needs.{needs}
 use Rattle.list_runs.proofs.list_runs.Statement.{statement}
 use Rattle.list_runs.proofs.list_runs.Tie as tie
@@ -9,7 +9,7 @@ check-list-requires c κs = search needs
 
 returns : tie.Need-returns
 returns c =
-    list-runs-refused 32 (c .before .before .before .before .before .args .list .now) (c .before .before .check-list .ensures) _ (c .if1 .taken)
+    list-runs-checked 32 (c .before .before .before .before .before .args .list .now) (c .before .before .check-list .ensures) _ (c .if1 .taken)
 
 write-runs-requires : tie.Need-write-runs-requires
 write-runs-requires c κs =
@@ -20,7 +20,7 @@ same-length c = search needs
 
 returns-2 : tie.Need-returns-2
 returns-2 c =
-    list-runs-accepted 32 (c .before .before .before .before .before .before .before .before .before .args .list .now) (c .before .before .before .before .before .before .check-list .ensures) _ (c .before .before .before .before .if1 .left) (c .before .before .write-runs .ensures)
+    list-runs-listed 32 (c .before .before .before .before .before .before .before .before .before .args .list .now) (c .before .before .before .before .before .before .check-list .ensures) _ (c .before .before .before .before .if1 .left) (c .before .before .write-runs .ensures)
 
 pub list-runs-spec : {M : Type 1} → statement M
 list-runs-spec =

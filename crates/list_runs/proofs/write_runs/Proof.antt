@@ -1,10 +1,10 @@
-use Rattle.list_runs.proofs.Answers.{ready-to-count, write-runs-many, write-runs-short, write-runs-done}
+use Rattle.list_runs.proofs.Answers.{sweepable-to-count, write-runs-many, write-runs-short, write-runs-done}
 use borrow.Author.Needs.{needs}
 use Rattle.list_runs.proofs.write_runs.Statement.{statement}
 use Rattle.list_runs.proofs.write_runs.Tie as tie
 
 sweep-requires : tie.Need-sweep-requires
-sweep-requires c κs = ready-to-count _ (c .before .before .before .pre)
+sweep-requires c κs = sweepable-to-count _ (c .before .before .before .pre)
 
 refused-requires : tie.Need-refused-requires
 refused-requires c κs = search needs

@@ -4,7 +4,7 @@ use native.Mathlib.Omega.{arith}
 use borrow.Author.Needs.{needs}
 use lib.ListN.{length}
 use Rattle.table_rows.specs.Words.{rowCount, rowAt}
-use Rattle.table_save.proofs.SaveWalk.{ready-row, size-last, wrote-last, size-more, ready-child, wrote-more, wrote-none, below-is, wrote-below}
+use Rattle.table_save.proofs.SaveWalk.{ready-row, size-last, wrote-last, size-more, savable-child, wrote-more, wrote-none, below-is, wrote-below}
 use Prim.Native.Nat.{_*_, _+_, _≤_}
 use Prim.Native.Nat.{ℕ, _<_}
 use borrow.Fn.Kinds.{In}
@@ -169,7 +169,7 @@ save-at-save-below-requires t c κs =
     let M = rowAt (a .args .rows .now) in (
       omega arith,
       (
-        ready-child M (rowCount (a .args .rows .now)) (a .args .left) (a .args .row) _ ne (r .row-at .ensures) (a .pre .1 .0) false,
+        savable-child M (rowCount (a .args .rows .now)) (a .args .left) (a .args .row) _ ne (r .row-at .ensures) (a .pre .1 .0) false,
         omega (arith, size-more M (a .args .left) (a .args .row) _ ne (r .row-at .ensures), a .pre .1 .1),
       ),
     )
@@ -210,7 +210,7 @@ save-at-save-below-requires-2 t c κs =
     let M = rowAt (a .args .rows .now) in (
       omega arith,
       (
-        ready-child M (rowCount (a .args .rows .now)) (a .args .left) (a .args .row) _ ne (r .row-at .ensures) (a .pre .1 .0) true,
+        savable-child M (rowCount (a .args .rows .now)) (a .args .left) (a .args .row) _ ne (r .row-at .ensures) (a .pre .1 .0) true,
         omega (
           arith,
           size-more M (a .args .left) (a .args .row) _ ne (r .row-at .ensures),

@@ -17,26 +17,23 @@ returns-2 c =
     let a = s .before .before .before .args in
     frame-long 32 (a .file .now) (a .i) (a .at) (s .before .if1 .left) _ (s .length-at .ensures .is) (c .if2 .taken)
 
-prefix-bytes-requires : tie.Need-prefix-bytes-requires
-prefix-bytes-requires c κs = search needs
+route-size-requires : tie.Need-route-size-requires
+route-size-requires c κs = search needs
 
 add-if3 : tie.Need-add-if3
 add-if3 c = search needs
-
-add-if3-2 : tie.Need-add-if3-2
-add-if3-2 c = search needs
 
 returns-3 : tie.Need-returns-3
 returns-3 c =
     let s = c .before .before .before in
     let a = s .before .before .before .args in
-    frame-cut 32 (a .file .now) (a .i) (a .at) (s .before .if1 .left) _ (s .length-at .ensures .is) (c .before .before .if2 .left) _ (c .before .prefix-bytes .ensures .is) (c .if3 .taken)
+    frame-cut 32 (a .file .now) (a .i) (a .at) (s .before .if1 .left) _ (s .length-at .ensures .is) (c .before .before .if2 .left) _ (c .before .route-size .ensures .is) (c .if3 .taken)
 
 returns-4 : tie.Need-returns-4
 returns-4 c =
     let s = c .before .before .before in
     let a = s .before .before .before .args in
-    frame-entire 32 (a .file .now) (a .i) (a .at) (s .before .if1 .left) _ (s .length-at .ensures .is) (c .before .before .if2 .left) _ (c .before .prefix-bytes .ensures .is) (c .if3 .left)
+    frame-entire 32 (a .file .now) (a .i) (a .at) (s .before .if1 .left) _ (s .length-at .ensures .is) (c .before .before .if2 .left) _ (c .before .route-size .ensures .is) (c .if3 .left)
 
 pub frame-fault-spec : {M : Type 1} → statement M
 frame-fault-spec =
@@ -45,8 +42,7 @@ frame-fault-spec =
     returns
     length-at-requires
     returns-2
-    prefix-bytes-requires
+    route-size-requires
     add-if3
-    add-if3-2
     returns-3
     returns-4)

@@ -45,8 +45,8 @@ returns-2 c =
     let a = s .before .before .args in
     step-faulty 32 (a .file .now) (a .c) _ (s .frame-fault .ensures) (x .before .if1 .left) _ (x .read-at .ensures) _ (v .rises-after .ensures) _ (f .content-fault .ensures) _ (c .before .if2 .taken) (c .refused2 .ensures)
 
-prefix-bytes-requires : tie.Need-prefix-bytes-requires
-prefix-bytes-requires c κs = search needs
+route-size-requires : tie.Need-route-size-requires
+route-size-requires c κs = search needs
 
 add-t14 : tie.Need-add-t14
 add-t14 c = search needs
@@ -54,18 +54,18 @@ add-t14 c = search needs
 add-t15 : tie.Need-add-t15
 add-t15 c = search needs
 
-add-t16 : tie.Need-add-t16
-add-t16 c = search needs
+prefix-requires : tie.Need-prefix-requires
+prefix-requires c κs = search needs
 
 returns-3 : tie.Need-returns-3
 returns-3 c =
-    let k = c .before in
+    let k = c .before .before in
     let f = k .before .before in
     let v = f .before in
     let x = v .before .before in
     let s = x .before .before in
     let a = s .before .before .args in
-    step-took 32 (a .file .now) (a .c) _ (s .frame-fault .ensures) (x .before .if1 .left) _ (x .read-at .ensures) _ (v .rises-after .ensures) _ (f .content-fault .ensures) (k .before .if2 .left) _ (k .prefix-bytes .ensures .is)
+    step-took 32 (a .file .now) (a .c) _ (s .frame-fault .ensures) (x .before .if1 .left) _ (x .read-at .ensures) _ (v .rises-after .ensures) _ (f .content-fault .ensures) (k .before .if2 .left) _ (k .route-size .ensures .is) _ (c .prefix .ensures)
 
 pub step-at-spec : {M : Type 1} → statement M
 step-at-spec =
@@ -81,8 +81,8 @@ step-at-spec =
     cast-refused-2
     refused-requires-2
     returns-2
-    prefix-bytes-requires
+    route-size-requires
     add-t14
     add-t15
-    add-t16
+    prefix-requires
     returns-3)

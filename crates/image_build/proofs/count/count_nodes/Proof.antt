@@ -1,17 +1,17 @@
-use Rattle.image_build.proofs.Counted.{sum-none, sum-more, sum-all}
+use Rattle.image_build.proofs.CountLoop.{sum-none, sum-more, sum-all}
 use mathlib.Core.Path.{_≡_}
 use denote.Ref.{now}
 use Prim.Native.Nat.{_+_, _-_, _*_, _/_, _≤_}
 use native.Mathlib.Omega.{arith}
 use Rattle.routes.specs.Routes.{routeAt}
-use Rattle.image_stretch.specs.Count.{nodesAt, sumOf, nodesCount}
+use Rattle.image_stretch.specs.Count.{countBelow, sumOf, nodesCount}
 use borrow.Author.Needs.{needs}
 use Rattle.image_build.proofs.count.count_nodes.Statement.{statement}
 use Rattle.image_build.proofs.count.count_nodes.Tie as tie
 
 abbrev Inv-loop : tie.InvT-loop
 Inv-loop list n stride i₀ count₀ i count =
-    (i ≤ n) × (count ≤ 1 + 31 * i) × (count + sumOf (nodesAt 32 (routeAt list) n stride (32 / stride - 1) stride) (n - i) i ≡ nodesCount 32 (routeAt list) n stride)
+    (i ≤ n) × (count ≤ 1 + 31 * i) × (count + sumOf (countBelow 32 (routeAt list) n stride (32 / stride - 1) stride) (n - i) i ≡ nodesCount 32 (routeAt list) n stride)
 
 abbrev μ-loop : tie.MeasureT-loop
 μ-loop list n stride i₀ count₀ i count = n - i
@@ -19,10 +19,10 @@ abbrev μ-loop : tie.MeasureT-loop
 loop-holds : tie.Need-loop-holds Inv-loop μ-loop
 loop-holds c =
     let a = c .before .args in
-    (omega arith, omega arith, sum-none (nodesAt 32 (routeAt (now (a .list))) (a .n) (a .stride) (32 / a .stride - 1) (a .stride)) (a .n))
+    (omega arith, omega arith, sum-none (countBelow 32 (routeAt (now (a .list))) (a .n) (a .stride) (32 / a .stride - 1) (a .stride)) (a .n))
 
-nodes-at-requires : tie.Need-nodes-at-requires Inv-loop μ-loop
-nodes-at-requires c κs = search needs
+count-below-requires : tie.Need-count-below-requires Inv-loop μ-loop
+count-below-requires c κs = search needs
 
 add-count : tie.Need-add-count Inv-loop μ-loop
 add-count c = search needs
@@ -37,13 +37,13 @@ loop-again : tie.Need-loop-again Inv-loop μ-loop
 loop-again c =
     let a = c .before .before .before .before .args in
     let l = c .before .before .loop in
-    (omega arith, omega arith, sum-more (nodesAt 32 (routeAt (now (a .list))) (a .n) (a .stride) (32 / a .stride - 1) (a .stride)) (a .n) (l .i) (l .count) (c .nodes-at .result) _ (search needs) (c .nodes-at .ensures .0) (l .inv .2))
+    (omega arith, omega arith, sum-more (countBelow 32 (routeAt (now (a .list))) (a .n) (a .stride) (32 / a .stride - 1) (a .stride)) (a .n) (l .i) (l .count) (c .count-below .result) _ (search needs) (c .count-below .ensures .0) (l .inv .2))
 
 returns : tie.Need-returns Inv-loop μ-loop
 returns c =
     let a = c .before .before .before .args in
     let l = c .before .loop in
-    (sum-all (nodesAt 32 (routeAt (now (a .list))) (a .n) (a .stride) (32 / a .stride - 1) (a .stride)) (a .n) (l .i) (l .count) _ (omega arith) (l .inv .2), omega arith)
+    (sum-all (countBelow 32 (routeAt (now (a .list))) (a .n) (a .stride) (32 / a .stride - 1) (a .stride)) (a .n) (l .i) (l .count) _ (omega arith) (l .inv .2), omega arith)
 
 pub count-nodes-spec : {M : Type 1} → statement M
 count-nodes-spec =
@@ -52,7 +52,7 @@ count-nodes-spec =
     Inv-loop
     μ-loop
     loop-holds
-    nodes-at-requires
+    count-below-requires
     add-count
     add-i
     loop-less

@@ -1,63 +1,28 @@
-use native.Mathlib.Omega.{arith}
-use native.Mathlib.Numerals.{add-one, add-two}
-use lib.ListN.{length-set}
+use mathlib.Core.Path.{_∙_}
+use denote.Ref.{now}
+use Rattle.image_rules.specs.Node.{nodeWords}
+use Rattle.image_nodes.proofs.Nodes.{store-node-lent}
 use borrow.Author.Needs.{needs}
 use Rattle.image_build.proofs.fill.put_node.Statement.{statement}
 use Rattle.image_build.proofs.fill.put_node.Tie as tie
 
-mul-row : tie.Need-mul-row
-mul-row c = search needs
+cast-t7 : tie.Need-cast-t7
+cast-t7 c = search needs
 
-mul-nodes : tie.Need-mul-nodes
-mul-nodes c = search needs
+cast-t8 : tie.Need-cast-t8
+cast-t8 c = search needs
 
-slice-write-nodes : tie.Need-slice-write-nodes
-slice-write-nodes c = search needs
-
-cast-nodes : tie.Need-cast-nodes
-cast-nodes c = search needs
-
-add-nodes : tie.Need-add-nodes
-add-nodes c = search needs
-
-mul-nodes-2 : tie.Need-mul-nodes-2
-mul-nodes-2 c = search needs
-
-slice-write-nodes-2 : tie.Need-slice-write-nodes-2
-slice-write-nodes-2 c = simp length-set (omega arith)
-
-cast-nodes-2 : tie.Need-cast-nodes-2
-cast-nodes-2 c = search needs
-
-add-nodes-2 : tie.Need-add-nodes-2
-add-nodes-2 c = search needs
-
-mul-nodes-3 : tie.Need-mul-nodes-3
-mul-nodes-3 c = search needs
-
-slice-write-nodes-3 : tie.Need-slice-write-nodes-3
-slice-write-nodes-3 c = simp length-set (omega arith)
+store-node-requires : tie.Need-store-node-requires
+store-node-requires c κs = search needs
 
 same-length : tie.Need-same-length
 same-length c = search needs
 
 returns : tie.Need-returns
-returns c = simp (add-one, add-two)
+returns c =
+    let d = c .before .before .before .before .before .before .before in
+    let a = d .args in
+    c .before .before .store-node .ensures ∙ store-node-lent (now (a .nodes)) (a .at .0) (nodeWords (a .bits) (a .distance .0) (a .base .0)) (d .pre .0)
 
 pub put-node-spec : {M : Type 1} → statement M
-put-node-spec =
-    tie.close
-    (tie.spec
-    mul-row
-    mul-nodes
-    slice-write-nodes
-    cast-nodes
-    add-nodes
-    mul-nodes-2
-    slice-write-nodes-2
-    cast-nodes-2
-    add-nodes-2
-    mul-nodes-3
-    slice-write-nodes-3
-    same-length
-    returns)
+put-node-spec = tie.close (tie.spec cast-t7 cast-t8 store-node-requires same-length returns)

@@ -1,0 +1,4 @@
+-- Laws of this layer that belong to no one function.
+pub mod Nodes
+pub mod Slots
+pub mod Unique

@@ -3,7 +3,7 @@
 use file_read::read_file;
 use file_write::write_file;
 use libc::STDOUT_FILENO;
-use routes::Answer;
+use refusals::Answer;
 
 fn text(s: &[u8]) {
     io::write_all(STDOUT_FILENO, s);

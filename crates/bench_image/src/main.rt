@@ -3,7 +3,7 @@
 use image_build::build;
 use image_lookup::lookup;
 use libc::STDOUT_FILENO;
-use routes::found::Found;
+use refusals::found::Found;
 
 // "Routes 01, 10, 000, 001, 111, 1100, 1101 with ports 1..7", in list order.
 fn seven() -> [u32; 21] {

@@ -2,7 +2,7 @@
 // "refused" with the number and the place; then come the words that were lent, 9 where nothing was written.
 use libc::STDOUT_FILENO;
 use list_runs::list_runs;
-use routes::Answer;
+use refusals::Answer;
 use table_runs::table_runs;
 
 // "rows 0..9 hold 100110, 00, 10010, 01, 10011, 11, 1000, 101, 1110, 1111": value, length, port, left row, right row.

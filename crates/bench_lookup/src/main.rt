@@ -1,6 +1,7 @@
 // RULES, "Examples", 1 to 7, run; their table damaged in each way that is refused; and
 // that table saved as a list. A line is `claim`, the lookup's number, port and rows read, and the number that the check answers.
 use libc::STDOUT_FILENO;
+use refusals::found::Found;
 use routes::route_at;
 use table_lookup::check;
 use table_lookup::lookup;
@@ -53,7 +54,7 @@ fn number(x: u32) {
 }
 
 fn show(claim: &[u8], rows: &[u32], n: u32, address: u32) {
-    let found = lookup(rows, n, address);
+    let found: Found = lookup(rows, n, address);
     let checked = check(rows, n);
     text(claim);
     number(found.number);

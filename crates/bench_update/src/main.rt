@@ -1,7 +1,7 @@
 // RULES, "Examples", 8, run: its table, built and then changed, with every row shown; the calls that
 // are refused; a longer route below a shorter one that comes and goes; and one that the place of a withdrawn one is filled with.
 use libc::STDOUT_FILENO;
-use routes::Answer;
+use refusals::Answer;
 use table_lookup::lookup;
 use table_update::announce;
 use table_update::build;

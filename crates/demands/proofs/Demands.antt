@@ -10,7 +10,8 @@ use borrow.Author.Tests.{eqb-true, eqb-false, leb-true}
 use Rattle.promise.specs.Over.{outcome}
 use Rattle.lists.proofs.Tests.{way}
 use Rattle.routes.specs.Routes.{routeAt, routeCount}
-use Rattle.routes.specs.Refusals.{mostRoutes, accepted}
+use Rattle.refusals.specs.Refusals.{accepted}
+use Rattle.routes.specs.Bounds.{mostRoutes}
 use Rattle.routes.specs.Check.{listCheck}
 use Rattle.routes.proofs.Check.{accepted-valid}
 use Rattle.file_rules.specs.File.{FileWidth}

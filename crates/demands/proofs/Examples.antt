@@ -11,7 +11,7 @@ use Rattle.promise.specs.Over.{outcome, over}
 use Rattle.bits.specs.Bits.{Bits, bits}
 use Rattle.trie.specs.Scan.{longest, plainScan}
 use Rattle.trie.specs.Routes.{Route as BitRoute}
-use Rattle.routes.specs.Refusals.{accepted}
+use Rattle.refusals.specs.Refusals.{accepted}
 use Rattle.routes.specs.Routes.{route, routeAt, noRoute}
 use Rattle.lists.specs.Numbered.{listOf}
 use Rattle.routes.specs.Check.{faultAt, firstFault, routesCheck, listCheck}

@@ -10,11 +10,11 @@ use Rattle.lists.proofs.Tests.{both}
 use lib.Count.{ones, onesIn}
 use lib.ListN.{getD, replicate}
 use Rattle.promise.specs.Over.{Outcome, outcome}
-use Rattle.routes.specs.Refusals.{accepted, found}
+use Rattle.refusals.specs.Refusals.{accepted, found}
 use Rattle.routes.specs.Routes.{routeAt, Words}
 use Rattle.routes.specs.Check.{firstFault, routesCheck, listCheck}
 use Rattle.routes.specs.Scan.{scanOf, listScan}
-use Rattle.routes.specs.declared.Answer.{Answer}
+use Rattle.refusals.specs.declared.Answer.{Answer}
 use Rattle.file_rules.specs.Theorems.{emptyFile}
 use Rattle.file_rules.proofs.Trips.{empty-file}
 use Rattle.table_rows.specs.Words.{capacity, rowAt, storeRow, fiveWords}
@@ -23,7 +23,7 @@ use Rattle.table_rules.specs.Announce.{heldAt, sink, announced}
 use Rattle.table_rules.specs.Withdraw.{withdrawn}
 use Rattle.table_rules.specs.Check.{seen, noRows, seenAt, isGood}
 use Rattle.table_rules.specs.Save.{saveInto}
-use Rattle.routes.specs.declared.found.Found.{Found}
+use Rattle.refusals.specs.declared.found.Found.{Found}
 use Rattle.table_rules.proofs.Lookup.{lookup-is-scan}
 use Rattle.table_update.specs.Calls.{announceIn, announceInto, withdrawIn, withdrawInto, buildInto}
 use Rattle.image_rules.specs.Lookup as breadth

@@ -7,11 +7,12 @@ use lib.Dec.{eqb, leb, ltb}
 use lib.ListN.{length, getD}
 use borrow.Author.Tests.{ltb-true, ltb-false}
 use Rattle.bits.specs.Prefix.{clear}
-use Rattle.routes.specs.Refusals.{shortFile, wrongVersion, wrongSize, longPrefix, spareBits, wrongPort, notAbove, tooManyRoutes, mostRoutes, refused, accepted}
+use Rattle.refusals.specs.Refusals.{shortFile, wrongVersion, wrongSize, longPrefix, spareBits, wrongPort, notAbove, tooManyRoutes, refused, accepted}
+use Rattle.routes.specs.Bounds.{mostRoutes}
 use Rattle.routes.specs.Routes.{routeAt, routeCount}
 use Rattle.routes.specs.Check.{isPort, above, faultAt, firstFault, routesCheck, listCheck}
 use Rattle.routes.specs.declared.Route.{Route}
-use Rattle.routes.specs.declared.Answer.{Answer}
+use Rattle.refusals.specs.declared.Answer.{Answer}
 use Rattle.file_rules.specs.File.{version, headSize, statedSize, sizeFor, lenAt, readAt, placeOf, fileRoute}
 use Rattle.file_rules.specs.Check.{headFault, fileFault, checkFrom, fileCheck}
 use Rattle.demands.specs.Lamp.{Verdict, shows}

@@ -10,13 +10,14 @@ use lib.ListN.{length, getD}
 use borrow.Author.Tests.{ne-eqb, eqb-true, eqb-false}
 use Rattle.promise.specs.Over.{over}
 use Rattle.bits.specs.Bitmap.{slotBit}
-use Rattle.routes.specs.Refusals.{noRoom, notInOrder, wrongStride, lastPort, found, lost}
+use Rattle.refusals.specs.Refusals.{noRoom, notInOrder, wrongStride, found, lost}
+use Rattle.routes.specs.Bounds.{lastPort}
 use Rattle.routes.specs.Check.{listCheck}
-use Rattle.routes.specs.declared.Answer.{Answer}
+use Rattle.refusals.specs.declared.Answer.{Answer}
 use Rattle.image_rules.specs.Node.{nodeCount, isNode, bitmapOf}
 use Rattle.image_rules.specs.Image.{imagePaths, imageNodes, imagePorts}
 use Rattle.image_rules.specs.Lookup.{addressSlot, leafOf, childAt, leafAt, walk, isStride, lookupWords}
-use Rattle.routes.specs.declared.found.Found.{Found}
+use Rattle.refusals.specs.declared.found.Found.{Found}
 use Rattle.image_build.specs.Build.{Left, left, refusedBuild, doneBuild, listRoutes, imageInto, buildImage}
 use Rattle.demands.specs.Lamp.{shows, done}
 use Rattle.demands.specs.Checks.{imageChecks, nodeChecks, imageLookupChecks}

@@ -8,11 +8,11 @@ use lib.Dec.{eqb, leb}
 use lib.ListN.{length}
 use borrow.Author.Tests.{ne-eqb}
 use Rattle.promise.specs.Over.{Outcome, outcome, over}
-use Rattle.routes.specs.Refusals.{noRoom, tooManyRuns, refused, accepted}
+use Rattle.refusals.specs.Refusals.{noRoom, tooManyRuns, refused, accepted}
 use Rattle.routes.specs.Routes.{routeAt, routeCount, routeWords, listOfRoutes}
 use Rattle.routes.specs.Check.{listCheck}
 use Rattle.routes.specs.Scan.{scanOf, listScan}
-use Rattle.routes.specs.declared.Answer.{Answer}
+use Rattle.refusals.specs.declared.Answer.{Answer}
 use Rattle.file_rules.specs.File.{fileRoute, fileOf}
 use Rattle.file_rules.specs.Calls.{checkedThen, readFile, writeFile}
 use Rattle.lists.proofs.InOrder.{length-in-order}

@@ -12,10 +12,10 @@ use Rattle.promise.specs.Over.{Outcome, outcome, over}
 use Rattle.bits.specs.Bits.{prefixBits, bitBefore}
 use Rattle.bits.specs.Prefix.{span, Valid, clear}
 use Rattle.trie.specs.Routes.{Routes}
-use Rattle.routes.specs.Refusals.{longPrefix, spareBits, wrongPort, noRoom, notHeld, notInOrder, refused, accepted, found, lost}
+use Rattle.refusals.specs.Refusals.{longPrefix, spareBits, wrongPort, noRoom, notHeld, notInOrder, refused, accepted, found, lost}
 use Rattle.routes.specs.Routes.{routeAt, routeCount, wordsOf}
 use Rattle.routes.specs.Check.{isPort, prefixFault}
-use Rattle.routes.specs.declared.Answer.{Answer}
+use Rattle.refusals.specs.declared.Answer.{Answer}
 use Rattle.routes.specs.declared.Route.{Route}
 use Rattle.table_rules.specs.Rows.{Mem, child}
 use Rattle.table_rows.specs.Words.{capacity, rowAt, storeRow, fiveWords}
@@ -25,7 +25,7 @@ use Rattle.table_rules.specs.Save.{saved, saveInto}
 use Rattle.table_rules.specs.Announce.{isHeld}
 use Rattle.table_rules.specs.Withdraw.{withdrawn}
 use Rattle.table_rules.specs.Lookup.{wrongRow, endsAt, betterOf, walk, lookupIn}
-use Rattle.routes.specs.declared.found.Found.{Found}
+use Rattle.refusals.specs.declared.found.Found.{Found}
 use Rattle.table_rules.proofs.Table.{held-is}
 use Rattle.table_rules.proofs.Good.{check-is-good}
 use Rattle.table_lookup.specs.Good.{tableCheck}

@@ -5,8 +5,8 @@ use mathlib.Core.Bool.{Bool, true, false}
 use mathlib.Core.List.{List}
 use Prim.Native.Nat.{ℕ}
 use Rattle.promise.specs.Over.{Outcome, outcome}
-use Rattle.routes.specs.Refusals.{unless, refused, accepted}
-use Rattle.routes.specs.declared.Answer.{Answer}
+use Rattle.refusals.specs.Refusals.{unless, refused, accepted}
+use Rattle.refusals.specs.declared.Answer.{Answer}
 use Rattle.demands.specs.Lamp.{Verdict, shows, done, whether, refuse, Lamp}
 use Rattle.demands.proofs.Tells.{Tells}
 

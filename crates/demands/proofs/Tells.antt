@@ -8,7 +8,7 @@ use lib.Dec.{eqb, leb, ltb}
 use borrow.Author.Tests.{eqb-true, eqb-false, leb-true, leb-false, ltb-true, ltb-false}
 use Rattle.bits.specs.Prefix.{precedes}
 use Rattle.routes.specs.Check.{isPort, above}
-use Rattle.routes.specs.Refusals.{lastPort}
+use Rattle.routes.specs.Bounds.{lastPort}
 use Rattle.routes.specs.declared.Route.{Route}
 use Rattle.demands.specs.Checks.{NoPort, NotAbove}
 

@@ -9,7 +9,8 @@ use Rattle.bits.specs.Bits.{prefixBits, bitBefore}
 use Rattle.bits.specs.Prefix.{clear, precedes}
 use Rattle.bits.specs.Bitmap.{slotBit}
 use Rattle.trie.specs.Routes.{Routes, Route as BitRoute}
-use Rattle.routes.specs.Refusals.{shortFile, wrongVersion, wrongSize, longPrefix, spareBits, wrongPort, notAbove, tooManyRoutes, noRoom, notHeld, notInOrder, wrongStride, tooManyRuns, mostRoutes, lastPort}
+use Rattle.refusals.specs.Refusals.{shortFile, wrongVersion, wrongSize, longPrefix, spareBits, wrongPort, notAbove, tooManyRoutes, noRoom, notHeld, notInOrder, wrongStride, tooManyRuns}
+use Rattle.routes.specs.Bounds.{mostRoutes, lastPort}
 use Rattle.routes.specs.Routes.{routeAt, routeCount}
 use Rattle.routes.specs.declared.Route.{Route}
 use Rattle.file_rules.specs.File.{version, headSize, statedSize, sizeFor, lenAt, readAt, placeOf, fileRoute, fileOf}

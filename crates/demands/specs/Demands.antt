@@ -9,11 +9,11 @@ use Rattle.bits.specs.Bits.{bits}
 use Rattle.trie.specs.Routes.{Routes}
 use Rattle.trie.specs.Scan.{scan}
 use Rattle.trie.specs.Trie.{reads}
-use Rattle.routes.specs.Refusals.{accepted, found}
+use Rattle.refusals.specs.Refusals.{accepted, found}
 use Rattle.routes.specs.Routes.{routeAt, routeCount, Words}
 use Rattle.routes.specs.Check.{listCheck}
 use Rattle.routes.specs.Scan.{scanOf, listScan}
-use Rattle.routes.specs.declared.Answer.{Answer}
+use Rattle.refusals.specs.declared.Answer.{Answer}
 use Rattle.routes.specs.declared.Route.{Route}
 use Rattle.file_rules.specs.Bytes.{Bytes}
 use Rattle.file_rules.specs.Calls.{readFile, writeFile}

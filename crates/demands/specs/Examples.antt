@@ -5,10 +5,10 @@ use Prim.Native.Nat.{ℕ, _-_, _*_, _^_, _+_}
 use lib.ListN.{replicate}
 use Rattle.promise.specs.Over.{Outcome}
 use Rattle.routes.specs.Routes.{routeAt}
-use Rattle.routes.specs.declared.Answer.{Answer}
+use Rattle.refusals.specs.declared.Answer.{Answer}
 use Rattle.table_rows.specs.Words.{capacity, rowAt, fiveWords}
 use Rattle.table_rules.specs.Lookup.{lookupIn}
-use Rattle.routes.specs.declared.found.Found.{Found}
+use Rattle.refusals.specs.declared.found.Found.{Found}
 use Rattle.table_update.specs.Calls.{withdrawInto}
 use Rattle.image_rules.specs.Lookup.{lookupWords}
 use Rattle.image_build.specs.Build.{Left, buildImage}

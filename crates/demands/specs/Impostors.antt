@@ -10,13 +10,13 @@ use Rattle.trie.specs.Trie.{reads}
 use Rattle.routes.specs.Routes.{route, Words}
 use Rattle.routes.specs.Check.{listCheck}
 use Rattle.routes.specs.Scan.{listScan}
-use Rattle.routes.specs.declared.Answer.{Answer}
+use Rattle.refusals.specs.declared.Answer.{Answer}
 use Rattle.file_rules.specs.Calls.{readFile, writeFile}
 use Rattle.table_rows.specs.Words.{capacity, rowAt, fiveWords}
 use Rattle.table_rules.specs.Holds.{GoodFor}
 use Rattle.table_rules.specs.Lookup.{lookupIn}
 use Rattle.table_rules.specs.Save.{saveInto}
-use Rattle.routes.specs.declared.found.Found.{Found}
+use Rattle.refusals.specs.declared.found.Found.{Found}
 use Rattle.table_lookup.specs.Good.{tableCheck}
 use Rattle.table_update.specs.Calls.{announceInto, withdrawInto, buildInto}
 use Rattle.image_rules.specs.Image.{passed}

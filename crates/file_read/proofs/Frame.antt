@@ -4,7 +4,8 @@ use mathlib.Core.List.{List}
 use Prim.Native.Nat.{ℕ, _+_, _-_, _≤_, _<_}
 use lib.ListN.{length, getD}
 use borrow.Author.Tests.{lt-ltb, le-ltb, le-leb, lt-leb, eq-eqb, ne-eqb}
-use Rattle.routes.specs.Refusals.{shortFile, wrongVersion, wrongSize, longPrefix, tooManyRoutes, mostRoutes}
+use Rattle.refusals.specs.Refusals.{shortFile, wrongVersion, wrongSize, longPrefix, tooManyRoutes}
+use Rattle.routes.specs.Bounds.{mostRoutes}
 use Rattle.file_rules.specs.File.{version, headSize, statedSize, sizeFor, lenAt}
 use Rattle.file_rules.specs.Check.{headFault, frameFault}
 

@@ -5,8 +5,8 @@ use Prim.Native.Nat.{ℕ, _/_, _≤_, _<_}
 use native.Mathlib.Omega.{arith}
 use lib.ListN.{length}
 use Rattle.promise.specs.Over.{over, outcome}
-use Rattle.routes.specs.Refusals.{noRoom, refused}
-use Rattle.routes.specs.declared.Answer.{Answer}
+use Rattle.refusals.specs.Refusals.{noRoom, refused}
+use Rattle.refusals.specs.declared.Answer.{Answer}
 use Rattle.file_rules.specs.File.{fileRoute}
 use Rattle.file_rules.specs.Check.{fileCheck, Whole}
 use Rattle.file_rules.specs.Calls.{readFile}

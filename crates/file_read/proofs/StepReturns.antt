@@ -6,9 +6,9 @@ use Prim.Native.Nat.{ℕ, _+_}
 use lib.Dec.{eqb}
 use borrow.Author.Tests.{ne-eqb}
 use Rattle.bits.specs.Prefix.{precedes}
-use Rattle.routes.specs.Refusals.{refused}
+use Rattle.refusals.specs.Refusals.{refused}
 use Rattle.routes.specs.Routes.{route}
-use Rattle.routes.specs.declared.Answer.{Answer}
+use Rattle.refusals.specs.declared.Answer.{Answer}
 use Rattle.routes.proofs.Faults.{chain-fault, chain-rest}
 use Rattle.file_rules.specs.File.{prefixBytes, lenAt, valueFrom, portFrom, spare, readAt, sizeFor}
 use Rattle.file_rules.specs.Check.{frameFault, contentFault, Entire}

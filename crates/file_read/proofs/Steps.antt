@@ -11,8 +11,9 @@ use borrow.Author.Count.{below-none, below-more}
 use borrow.Author.Tests.{eqb-true, eqb-false}
 use Rattle.bits.specs.Prefix.{precedes}
 use Rattle.lists.proofs.Tests.{way}
-use Rattle.routes.specs.Refusals.{mostRoutes, refused, accepted}
-use Rattle.routes.specs.declared.Answer.{Answer}
+use Rattle.refusals.specs.Refusals.{refused, accepted}
+use Rattle.routes.specs.Bounds.{mostRoutes}
+use Rattle.refusals.specs.declared.Answer.{Answer}
 use Rattle.routes.proofs.First.{NoneBelow}
 use Rattle.file_rules.specs.File.{headSize, sizeFor, lenAt, readAt, placeOf, fileRoute}
 use Rattle.file_rules.specs.Check.{frameFault, contentFault, fileFault, headFault, fileCheck}

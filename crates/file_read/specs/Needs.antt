@@ -3,7 +3,7 @@ use mathlib.Core.Path.{_≡_}
 use mathlib.Core.List.{List}
 use Prim.Native.Nat.{ℕ, _+_, _*_, _^_, _≤_, _<_}
 use lib.ListN.{length, take, drop}
-use Rattle.routes.specs.Refusals.{mostRoutes}
+use Rattle.routes.specs.Bounds.{mostRoutes}
 use Rattle.file_rules.specs.Bytes.{number}
 use Rattle.file_rules.specs.File.{headSize, sizeFor}
 use Rattle.file_rules.specs.Check.{Whole}

@@ -4,7 +4,7 @@ use mathlib.Core.List.{List}
 use Prim.Native.Nat.{ℕ, _+_}
 use lib.Dec.{eqb}
 use Rattle.bits.specs.Prefix.{precedes}
-use Rattle.routes.specs.Refusals.{refused}
+use Rattle.refusals.specs.Refusals.{refused}
 use Rattle.routes.specs.declared.Route.{Route}
 use Rattle.file_rules.specs.File.{sizeFor, readAt}
 use Rattle.file_rules.specs.Check.{frameFault, contentFault}

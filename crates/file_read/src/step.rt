@@ -13,16 +13,16 @@ use file_rules::Spared;
 use file_rules::prefix_bytes;
 use file_rules::route_size;
 use prefix::Prefix;
-use routes::Answer;
+use refusals::Answer;
+use refusals::LONG_PREFIX;
+use refusals::NOT_ABOVE;
+use refusals::SPARE_BITS;
+use refusals::TOO_MANY_ROUTES;
+use refusals::WRONG_PORT;
+use refusals::WRONG_SIZE;
+use routes::MOST_ROUTES;
 use routes::Route;
 use routes::is_port;
-use routes::refusal::LONG_PREFIX;
-use routes::refusal::MOST_ROUTES;
-use routes::refusal::NOT_ABOVE;
-use routes::refusal::SPARE_BITS;
-use routes::refusal::TOO_MANY_ROUTES;
-use routes::refusal::WRONG_PORT;
-use routes::refusal::WRONG_SIZE;
 
 // Where the reader stands: the offset of the next route, its number from 0, and the prefix of the route before it.
 pub struct Cursor {

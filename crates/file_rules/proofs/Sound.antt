@@ -10,7 +10,8 @@ use native.Mathlib.Nat.{suc-mul}
 use lib.Dec.{leb, ltb}
 use lib.ListN.{length}
 use borrow.Author.Tests.{le-leb, leb-true, lt-ltb, ltb-true}
-use Rattle.routes.specs.Refusals.{wrongSize, tooManyRoutes, longPrefix, spareBits, wrongPort, notAbove, mostRoutes, unless}
+use Rattle.refusals.specs.Refusals.{wrongSize, tooManyRoutes, longPrefix, spareBits, wrongPort, notAbove, unless}
+use Rattle.routes.specs.Bounds.{mostRoutes}
 use Rattle.routes.specs.Check.{isPort, above}
 use Rattle.routes.proofs.Faults.{orFault, unless-none}
 use Rattle.routes.proofs.First.{NoneBelow}

@@ -11,10 +11,10 @@ use lib.Seq.{take-at}
 use borrow.Author.Tests.{eq-eqb, ne-eqb, eqb-true, eqb-false, le-leb, lt-leb, leb-true, leb-false}
 use Rattle.lists.proofs.Tests.{way}
 use Rattle.promise.specs.Over.{over, Outcome, outcome}
-use Rattle.routes.specs.Refusals.{noRoom, refused, accepted}
+use Rattle.refusals.specs.Refusals.{noRoom, refused, accepted}
 use Rattle.routes.specs.Routes.{routeAt, routeCount, ValidList, listOfRoutes}
 use Rattle.routes.specs.Check.{listCheck, routesCheck, firstFault}
-use Rattle.routes.specs.declared.Answer.{Answer}
+use Rattle.refusals.specs.declared.Answer.{Answer}
 use Rattle.routes.specs.declared.Route.{Route}
 use Rattle.routes.proofs.Check.{accepted-sized, accepted-valid, check-done}
 use Rattle.file_rules.specs.Bytes.{number, digits}

@@ -11,8 +11,8 @@ use lib.ListN.{length, getD}
 use borrow.Author.Count.{below-none, below-more}
 use borrow.Author.Tests.{eq-eqb, ne-eqb, eqb-true, eqb-false, le-leb, lt-leb, leb-true, lt-ltb, le-ltb, ltb-true, ltb-false}
 use Rattle.lists.proofs.Tests.{way}
-use Rattle.routes.specs.Refusals.{wrongSize, tooManyRoutes, refused, accepted}
-use Rattle.routes.specs.declared.Answer.{Answer}
+use Rattle.refusals.specs.Refusals.{wrongSize, tooManyRoutes, refused, accepted}
+use Rattle.refusals.specs.declared.Answer.{Answer}
 use Rattle.routes.proofs.Faults.{unless-none}
 use Rattle.routes.proofs.First.{NoneBelow}
 use Rattle.file_rules.specs.File.{version, headSize, statedSize, placeOf}

@@ -7,7 +7,7 @@ use lib.Pow.{shl-lt, shl-shr}
 use lib.ListN.{length, take, drop, length-append, length-drop}
 use lib.Seq.{take-add, take-length, drop-cons, drop-drop, length-take-le}
 use borrow.Author.Tests.{le-leb}
-use Rattle.routes.specs.Refusals.{mostRoutes}
+use Rattle.routes.specs.Bounds.{mostRoutes}
 use Rattle.routes.specs.declared.Route.{Route}
 use Rattle.routes.proofs.Faults.{Faultless, faultless-valid, faultless-rises}
 use Rattle.file_rules.specs.Bytes.{number, digits, Bytes}

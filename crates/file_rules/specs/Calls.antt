@@ -6,10 +6,10 @@ use Prim.Native.Nat.{ℕ}
 use lib.Dec.{eqb, leb}
 use lib.ListN.{length}
 use Rattle.promise.specs.Over.{over, Outcome, outcome}
-use Rattle.routes.specs.Refusals.{noRoom, refused, accepted}
+use Rattle.refusals.specs.Refusals.{noRoom, refused, accepted}
 use Rattle.routes.specs.Routes.{routeAt, routeCount, listOfRoutes}
 use Rattle.routes.specs.Check.{listCheck}
-use Rattle.routes.specs.declared.Answer.{Answer}
+use Rattle.refusals.specs.declared.Answer.{Answer}
 use Rattle.file_rules.specs.File.{fileRoute, fileOf}
 use Rattle.file_rules.specs.Check.{fileCheck}
 

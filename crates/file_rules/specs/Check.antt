@@ -5,9 +5,10 @@ use mathlib.Core.List.{List}
 use Prim.Native.Nat.{ℕ, zero, suc, _+_, _-_, _<_, _≤_}
 use lib.Dec.{eqb, leb, ltb}
 use lib.ListN.{length, getD}
-use Rattle.routes.specs.Refusals.{shortFile, wrongVersion, wrongSize, longPrefix, spareBits, wrongPort, notAbove, tooManyRoutes, mostRoutes, refused, accepted, unless}
+use Rattle.refusals.specs.Refusals.{shortFile, wrongVersion, wrongSize, longPrefix, spareBits, wrongPort, notAbove, tooManyRoutes, refused, accepted, unless}
+use Rattle.routes.specs.Bounds.{mostRoutes}
 use Rattle.routes.specs.Check.{isPort, above}
-use Rattle.routes.specs.declared.Answer.{Answer}
+use Rattle.refusals.specs.declared.Answer.{Answer}
 use Rattle.file_rules.specs.File.{version, headSize, statedSize, sizeFor, lenAt, readAt, placeOf, fileRoute}
 use Rattle.file_rules.specs.declared.Spared.{Spared}
 

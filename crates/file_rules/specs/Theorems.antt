@@ -6,7 +6,7 @@ use mathlib.Core.Logic.{_⊎_, _↔_}
 use Prim.Native.Nat.{ℕ, _-_, _*_, _≤_, _<_}
 use lib.ListN.{length, getD, take}
 use Rattle.promise.specs.Over.{over, outcome}
-use Rattle.routes.specs.Refusals.{shortFile, wrongVersion, wrongSize, tooManyRoutes, refused, accepted}
+use Rattle.refusals.specs.Refusals.{shortFile, wrongVersion, wrongSize, tooManyRoutes, refused, accepted}
 use Rattle.routes.specs.Routes.{routeCount, ValidList, Words}
 use Rattle.routes.specs.declared.Route.{Route}
 use Rattle.file_rules.specs.Bytes.{Bytes}

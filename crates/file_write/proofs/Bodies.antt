@@ -6,10 +6,10 @@ use native.Mathlib.Omega.{arith}
 use native.Mathlib.Nat.{mul-le-mul-right}
 use lib.ListN.{length}
 use borrow.Author.Tests.{leb-true}
-use Rattle.routes.specs.Refusals.{mostRoutes}
+use Rattle.routes.specs.Bounds.{mostRoutes}
 use Rattle.routes.specs.Routes.{routeAt, routeCount}
 use Rattle.routes.specs.Check.{faultAt, listCheck}
-use Rattle.routes.specs.declared.Answer.{Answer}
+use Rattle.refusals.specs.declared.Answer.{Answer}
 use Rattle.routes.specs.declared.Route.{Route}
 use Rattle.routes.proofs.Faults.{fault-none}
 use Rattle.routes.proofs.First.{accepted-none}

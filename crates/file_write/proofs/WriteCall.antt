@@ -5,10 +5,10 @@ use Prim.Native.Nat.{ℕ, _+_, _≤_, _<_}
 use native.Mathlib.Omega.{arith}
 use lib.ListN.{length, length-append}
 use Rattle.promise.specs.Over.{over, outcome}
-use Rattle.routes.specs.Refusals.{noRoom, refused, accepted}
+use Rattle.refusals.specs.Refusals.{noRoom, refused, accepted}
 use Rattle.routes.specs.Routes.{routeAt, routeCount}
 use Rattle.routes.specs.Check.{listCheck}
-use Rattle.routes.specs.declared.Answer.{Answer}
+use Rattle.refusals.specs.declared.Answer.{Answer}
 use Rattle.file_rules.specs.File.{headSize, bodyOf, headOf, fileOf}
 use Rattle.file_rules.specs.Calls.{writeFile}
 use Rattle.file_rules.proofs.Whole.{length-head}

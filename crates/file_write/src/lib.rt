@@ -13,11 +13,11 @@ use file_rules::HEAD_SIZE;
 use file_rules::VERSION;
 use file_rules::prefix_bytes;
 use file_rules::route_size;
-use routes::Answer;
+use refusals::Answer;
+use refusals::NO_ROOM;
 use routes::ROUTE_SIZE;
 use routes::Route;
 use routes::check_list;
-use routes::refusal::NO_ROOM;
 use routes::route_at;
 
 // Stores the last k bytes of a number, big-endian, from an offset on.

@@ -8,10 +8,10 @@ use lib.Dec.{leb}
 use lib.ListN.{length}
 use borrow.Author.Tests.{eq-eqb, ne-eqb, le-leb, lt-leb}
 use Rattle.promise.specs.Over.{over}
-use Rattle.routes.specs.Refusals.{noRoom, wrongStride}
+use Rattle.refusals.specs.Refusals.{noRoom, wrongStride}
 use Rattle.routes.specs.Routes.{routeAt, routeCount, ValidList, Words}
 use Rattle.routes.specs.Check.{listCheck}
-use Rattle.routes.specs.declared.Answer.{Answer}
+use Rattle.refusals.specs.declared.Answer.{Answer}
 use Rattle.routes.proofs.Check.{accepted-valid}
 use Rattle.image_rules.specs.Node.{nodeSize}
 use Rattle.image_rules.specs.Image.{imagePaths, imageNodes, imagePorts}

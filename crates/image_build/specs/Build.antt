@@ -1,4 +1,4 @@
--- Defines what a build of the image answers and leaves: rules, "The image", "Order of the checks" and "Refusals".
+-- Defines what a build of the image answers and leaves: RULES, "The image", "Order of the checks" and "Refusals".
 -- Assumes nothing.
 use mathlib.Core.Bool.{cond, _&&_}
 use mathlib.Core.List.{List}
@@ -7,7 +7,7 @@ use lib.Dec.{eqb, leb}
 use lib.ListN.{length}
 use Rattle.promise.specs.Over.{over}
 use Rattle.trie.specs.Routes.{Route}
-use Rattle.routes.specs.Refusals.{noRoom, wrongStride}
+use Rattle.refusals.specs.Refusals.{noRoom, wrongStride}
 use Rattle.routes.specs.Routes.{routeAt, routeCount}
 use Rattle.routes.specs.Check.{listCheck}
 use Rattle.image_rules.specs.Image.{imagePaths, imageNodes, imagePorts, routesOf}

@@ -1,4 +1,4 @@
--- States what a build is there for: rules, "The image". Proofs are in proofs/. Assumes nothing.
+-- States what a build is there for: RULES, "The image". Proofs are in proofs/. Assumes nothing.
 use mathlib.Core.Path.{_≡_}
 use mathlib.Core.List.{List, []}
 use Prim.Native.Nat.{ℕ, _+_, _/_, _^_, _<_}
@@ -7,7 +7,7 @@ use Rattle.routes.specs.Routes.{routeAt, routeCount, Words}
 use Rattle.routes.specs.Scan.{scanOf}
 use Rattle.image_rules.specs.Image.{passed}
 use Rattle.image_rules.specs.Lookup.{lookupWords, Strided}
-use Rattle.routes.specs.Refusals.{found}
+use Rattle.refusals.specs.Refusals.{found}
 use Rattle.image_build.specs.Build.{listRoutes, buildImage}
 
 -- after a build that is done, every address gets the plain scan's port of the list, and the nodes read are the non-leaf slots passed

@@ -1,7 +1,7 @@
 // How many nodes the image of a list has, by one pass over the list and with no memory.
 ghost use mathlib.Core.Path.{_≡_};
 ghost use Prim.Native.Nat.{_-_, _/_, _<_, _≤_};
-ghost use Rattle.routes.specs.Refusals.{mostRoutes};
+ghost use Rattle.routes.specs.Bounds.{mostRoutes};
 ghost use Rattle.routes.specs.Routes.{routeAt};
 ghost use Rattle.image_stretch.specs.Count.{countAt, countBelow, nodesCount};
 ghost use Rattle.image_build.specs.Needs.{mostNodes};

@@ -6,10 +6,10 @@ use fill::write_image;
 use image_nodes::NODE_SIZE;
 use image_nodes::is_stride;
 use image_nodes::slots_of;
+use refusals::NO_ROOM;
+use refusals::WRONG_STRIDE;
 use routes::ROUTE_SIZE;
 use routes::check_list;
-use routes::refusal::NO_ROOM;
-use routes::refusal::WRONG_STRIDE;
 
 mod count;
 mod fill;

@@ -10,7 +10,7 @@ use lib.Pow.{pow-pos}
 use borrow.Author.Tests.{lt-ltb, le-ltb, le-leb, lt-leb, eqb-true, eqb-false}
 use Rattle.bits.specs.Bitmap.{slotBit, onesBefore}
 use Rattle.bits.proofs.Bitmap.{ones-before-le}
-use Rattle.routes.specs.Refusals.{notInOrder, lost}
+use Rattle.refusals.specs.Refusals.{notInOrder, lost}
 use Rattle.image_rules.specs.Node.{nodeCount, isNode, bitmapOf, offsetOf, baseOf}
 use Rattle.image_rules.specs.Lookup.{leafAt, addressSlot, childAt, walk, lookupWords}
 use Rattle.image_rules.proofs.Walk.{walk-leaf, walk-child}

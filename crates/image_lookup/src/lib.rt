@@ -5,7 +5,7 @@ ghost use lib.Dec.{eqb};
 ghost use Rattle.bits.specs.Bitmap.{slotBit, onesBefore};
 ghost use Rattle.image_rules.specs.Node.{offsetOf, baseOf};
 ghost use Rattle.image_rules.specs.Lookup.{leafAt, lookupWords};
-ghost use Rattle.routes.specs.Refusals.{found, lost};
+ghost use Rattle.refusals.specs.Refusals.{found, lost};
 ghost use Rattle.image_nodes.specs.Needs.{Lent, Stride};
 ghost use Rattle.image_lookup.specs.Needs.{InSlots};
 use image_nodes::Distance;
@@ -17,10 +17,10 @@ use image_nodes::node_count;
 use image_nodes::offset_of;
 use image_nodes::slots_of;
 use image_nodes::wide;
-use routes::found::Found;
-use routes::refusal::LAST_PORT;
-use routes::refusal::NOT_IN_ORDER;
-use routes::refusal::WRONG_STRIDE;
+use refusals::NOT_IN_ORDER;
+use refusals::WRONG_STRIDE;
+use refusals::found::Found;
+use routes::LAST_PORT;
 
 // A port as a word.
 fn word(x: u16) -> u32

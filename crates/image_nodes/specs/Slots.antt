@@ -1,4 +1,4 @@
--- Defines how many slots the nodes of a stride have: rules, "The image". Assumes nothing.
+-- Defines how many slots the nodes of a stride have: RULES, "The image". Assumes nothing.
 use mathlib.Core.Bool.{cond}
 use Prim.Native.Nat.{ℕ, _^_}
 use Rattle.image_rules.specs.Lookup.{isStride}

@@ -1,4 +1,4 @@
--- Defines a node's three words as the struct of the code: rules, "Nodes". Where they lie, image_rules says. Assumes nothing.
+-- Defines a node's three words as the struct of the code: RULES, "Nodes". Where they lie, image_rules says. Assumes nothing.
 use mathlib.Core.Bool.{cond}
 use mathlib.Core.List.{List}
 use Prim.Native.Nat.{ℕ}

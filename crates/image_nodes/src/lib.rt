@@ -1,4 +1,4 @@
-// A node in the words lent, and the three kinds of number that the rules keep apart: rules, "Nodes". No other code knows where the
+// A node in the words lent, and the three kinds of number that the rules keep apart: RULES, "Nodes". No other code knows where the
 // words of a node are.
 ghost use mathlib.Core.Path.{_≡_};
 ghost use Prim.Native.Nat.{_+_, _-_, _%_, _^_, _≤_, _<_};

@@ -12,7 +12,8 @@ use Rattle.bits.specs.Bits.{Bits, bits}
 use Rattle.lists.proofs.Tests.{way}
 use Rattle.trie.specs.Routes.{Route}
 use Rattle.trie.specs.Scan.{scanList}
-use Rattle.routes.specs.Refusals.{lastPort, found}
+use Rattle.refusals.specs.Refusals.{found}
+use Rattle.routes.specs.Bounds.{lastPort}
 use Rattle.image_rules.specs.Image.{someLonger, slotBits, imagePaths, imageNodes, imagePorts, passed}
 use Rattle.image_rules.specs.Lookup.{addressSlot, leafOf, walk}
 use Rattle.bits.proofs.Digits.{bits-level, take-level, drop-level}

@@ -22,7 +22,7 @@ use Rattle.image_rules.specs.Node.{nodeCount, isNode, bitmapOf}
 use Rattle.image_rules.specs.Breadth.{leaf, nonLeaf, leafBit, children, leafPorts, treePorts}
 use Rattle.image_rules.specs.Image.{someLonger, slotOf, slotBits, slots, imagePaths, imageNodes, imagePorts, passed, Imaged, pathOf}
 use Rattle.image_rules.specs.Lookup.{leafOf, childAt, isStride, lookupWords, Strided}
-use Rattle.routes.specs.Refusals.{found}
+use Rattle.refusals.specs.Refusals.{found}
 use Rattle.image_rules.specs.Theorems.{LookupIsScan, Numbered, PortsCount, SlotRule, LeafRule, ChildRule}
 use Rattle.image_rules.proofs.Counts.{slots-count}
 use Rattle.image_rules.proofs.Longer.{some-longer→, some-longer, scan-more}

@@ -9,7 +9,8 @@ use Rattle.bits.proofs.Bits.{length-take-bits}
 use Rattle.trie.specs.Routes.{Route}
 use Rattle.routes.specs.Routes.{bitRoute, ValidRoute, ValidList}
 use Rattle.lists.specs.Numbered.{listOf}
-use Rattle.routes.specs.Refusals.{lastPort, found}
+use Rattle.refusals.specs.Refusals.{found}
+use Rattle.routes.specs.Bounds.{lastPort}
 use Rattle.routes.specs.declared.Route.{Route as ListRoute}
 use Rattle.lists.proofs.Numbered.{mem-list-of, map-list-of}
 use Rattle.routes.proofs.Held.{bitAt, bits-distinct, scan-is-held}

@@ -8,10 +8,11 @@ use lib.Dec.{eqb, ltb, leb}
 use lib.ListN.{length, getD}
 use borrow.Author.Tests.{lt-ltb, le-leb}
 use Rattle.bits.specs.Bitmap.{slotBit}
-use Rattle.routes.specs.Refusals.{notInOrder, wrongStride, lastPort, found, lost}
+use Rattle.refusals.specs.Refusals.{notInOrder, wrongStride, found, lost}
+use Rattle.routes.specs.Bounds.{lastPort}
 use Rattle.image_rules.specs.Node.{isNode, bitmapOf}
 use Rattle.image_rules.specs.Lookup.{addressSlot, leafOf, childAt, leafAt, walk, isStride, lookupWords}
-use Rattle.routes.specs.declared.found.Found.{Found}
+use Rattle.refusals.specs.declared.found.Found.{Found}
 use Rattle.image_rules.specs.Theorems.{ReadsLe}
 
 pub leaf-at-is : (ports : List ℕ) (l p reads : ℕ) → l < length ports → getD ports l 0 ≡ p → p ≤ lastPort

@@ -1,4 +1,4 @@
--- Defines a tree by the slots of its nodes, its nodes breadth first, and their words and ports: rules, "The image". A node is known
+-- Defines a tree by the slots of its nodes, its nodes breadth first, and their words and ports: RULES, "The image". A node is known
 -- by any X: here by its bits, in a builder by what is still to be done. Assumes nothing.
 use mathlib.Core.List.{List, [], _∷_, _++_}
 use Prim.Native.Nat.{ℕ, zero, suc, _+_, _*_, _^_}

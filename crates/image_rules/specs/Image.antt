@@ -1,4 +1,4 @@
--- Defines the image of a list of routes: rules, "The image". A node is known by its bits: those of the addresses that come to it.
+-- Defines the image of a list of routes: RULES, "The image". A node is known by its bits: those of the addresses that come to it.
 -- Assumes nothing.
 use mathlib.Core.Path.{_≡_}
 use mathlib.Core.Bool.{Bool, true, false, cond, _&&_, _||_}
@@ -9,7 +9,7 @@ use lib.ListN.{length, take, drop, getD}
 use Rattle.bits.specs.Bits.{Bits, bits, begins}
 use Rattle.trie.specs.Routes.{Route, Distinct, Ported}
 use Rattle.trie.specs.Scan.{scanList}
-use Rattle.routes.specs.Refusals.{lastPort}
+use Rattle.routes.specs.Bounds.{lastPort}
 use Rattle.routes.specs.Routes.{bitRoute}
 use Rattle.lists.specs.Numbered.{listOf}
 use Rattle.routes.specs.declared.Route.{Route as ListRoute}

@@ -1,4 +1,4 @@
--- Defines the lookup on any words: rules, "Lookup in an image". Sums are exact: a damaged offset points past the nodes lent and
+-- Defines the lookup on any words: RULES, "Lookup in an image". Sums are exact: a damaged offset points past the nodes lent and
 -- never wraps. Assumes nothing.
 use mathlib.Core.Bool.{Bool, true, cond}
 use mathlib.Core.List.{List}
@@ -6,11 +6,12 @@ use Prim.Native.Nat.{ℕ, zero, suc, _+_, _*_, _/_, _%_, _^_, _<_}
 use lib.Dec.{eqb, ltb, leb}
 use lib.ListN.{length, getD}
 use Rattle.bits.specs.Bitmap.{slotBit, onesBefore, zerosBefore}
-use Rattle.routes.specs.Refusals.{notInOrder, wrongStride, lastPort, found, lost}
+use Rattle.refusals.specs.Refusals.{notInOrder, wrongStride, found, lost}
+use Rattle.routes.specs.Bounds.{lastPort}
 use Rattle.image_rules.specs.Node.{isNode, bitmapOf, offsetOf, baseOf}
 use mathlib.Core.Path.{_≡_}
 use Rattle.bits.specs.Bits.{bits}
-use Rattle.routes.specs.declared.found.Found.{Found}
+use Rattle.refusals.specs.declared.found.Found.{Found}
 
 -- the slot of the address where k levels are left below it
 abbrev pub addressSlot : ℕ → ℕ → ℕ → ℕ

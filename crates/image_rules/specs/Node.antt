@@ -1,4 +1,4 @@
--- Defines where a node lies in the words lent, and what its words say: rules, "Nodes". No other definition says where a word of a node
+-- Defines where a node lies in the words lent, and what its words say: RULES, "Nodes". No other definition says where a word of a node
 -- is; in code image_nodes alone does. Assumes nothing.
 use mathlib.Core.Bool.{Bool, cond, _&&_}
 use mathlib.Core.List.{List, [], _∷_}

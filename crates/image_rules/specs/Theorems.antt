@@ -1,4 +1,4 @@
--- States what this layer is there for: rules, "The image". Proofs are in proofs/. Assumes nothing.
+-- States what this layer is there for: RULES, "The image". Proofs are in proofs/. Assumes nothing.
 use mathlib.Core.Path.{_≡_}
 use mathlib.Core.Logic.{_↔_}
 use mathlib.Core.Bool.{true}
@@ -18,7 +18,7 @@ use Rattle.image_rules.specs.Node.{nodeSize, isNode, bitmapOf}
 use Rattle.image_rules.specs.Breadth.{children}
 use Rattle.image_rules.specs.Image.{Longer, slotBits, slots, imagePaths, imageNodes, imagePorts, passed, routesOf, Imaged, pathOf}
 use Rattle.image_rules.specs.Lookup.{leafOf, childAt, lookupWords, Strided}
-use Rattle.routes.specs.Refusals.{found}
+use Rattle.refusals.specs.Refusals.{found}
 
 -- On the image of a list every address gets the plain scan's port, whatever else is lent after the image; and the nodes read are
 -- "one more than the non-leaf slots passed".

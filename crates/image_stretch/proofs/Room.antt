@@ -8,7 +8,7 @@ use lib.ListN.{length, drop}
 use lib.Seq.{sets, drop-append-add, drop-drop}
 use Rattle.promise.specs.Over.{over}
 use Rattle.routes.specs.Routes.{routeAt, ValidList}
-use Rattle.routes.specs.Refusals.{lastPort}
+use Rattle.routes.specs.Bounds.{lastPort}
 use Rattle.routes.specs.Scan.{routeMatches, lastMatch}
 use Rattle.routes.specs.declared.Route.{Route}
 use Rattle.image_rules.specs.Node.{nodeSize, storeNodes}

@@ -1,4 +1,4 @@
--- Defines how many nodes an image has, by one pass over the list: rules, "The image". Routes that share
+-- Defines how many nodes an image has, by one pass over the list: RULES, "The image". Routes that share
 -- their first l bits stand together, and if one of them is longer than l bits, the last one is. Assumes nothing.
 use mathlib.Core.Bool.{cond}
 use Prim.Native.Nat.{ℕ, zero, suc, _+_, _-_, _/_}

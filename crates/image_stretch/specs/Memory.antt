@@ -1,5 +1,5 @@
 -- Defines a builder's memory: the words of the nodes done, then the nodes still to do, each in the words of its node. So the nodes lent
--- are the queue, and no other memory is needed: rules, "Nodes". Assumes nothing.
+-- are the queue, and no other memory is needed: RULES, "Nodes". Assumes nothing.
 use mathlib.Core.List.{List, _++_}
 use Prim.Native.Nat.{ℕ, _+_, _-_, _*_, _/_, _%_}
 use lib.ListN.{length, take, drop}

@@ -1,4 +1,4 @@
--- Defines a node of the image as a stretch of the sorted list, and its slots: rules, "The image". In the order of the list the routes
+-- Defines a node of the image as a stretch of the sorted list, and its slots: RULES, "The image". In the order of the list the routes
 -- that begin with a node's bits stand together, and the shorter ones that match it stand before them. Assumes nothing.
 use mathlib.Core.Bool.{Bool, cond, _&&_}
 use mathlib.Core.List.{List, [], _∷_}

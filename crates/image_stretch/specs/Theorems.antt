@@ -1,4 +1,4 @@
--- States what this layer is there for: rules, "The image". Proofs are in proofs/. Assumes nothing.
+-- States what this layer is there for: RULES, "The image". Proofs are in proofs/. Assumes nothing.
 use mathlib.Core.Path.{_≡_}
 use Prim.Native.Nat.{ℕ, _/_, _^_}
 use lib.ListN.{length}

@@ -7,11 +7,11 @@ use native.Mathlib.Omega.{arith}
 use lib.ListN.{length}
 use borrow.Author.Tests.{le-leb, lt-leb}
 use Rattle.promise.specs.Over.{Outcome, outcome, over}
-use Rattle.routes.specs.Refusals.{noRoom, tooManyRuns, refused, accepted}
+use Rattle.refusals.specs.Refusals.{noRoom, tooManyRuns, refused, accepted}
 use Rattle.routes.specs.Routes.{routeAt, routeCount, ValidList, Words}
 use Rattle.routes.specs.Check.{listCheck}
 use Rattle.routes.specs.declared.Route.{Route}
-use Rattle.routes.specs.declared.Answer.{Answer}
+use Rattle.refusals.specs.declared.Answer.{Answer}
 use Rattle.routes.proofs.Check.{accepted-valid}
 use Rattle.runs_rules.specs.Runs.{Run, runSize, runWords}
 use Rattle.runs_rules.specs.Listing.{listed, mostRuns, writeRuns, listRuns}

@@ -8,11 +8,11 @@ ghost use Rattle.runs_rules.specs.Listing.{listed, writeRuns, listRuns};
 ghost use Rattle.list_runs.specs.Sweep.{firstOf, lastOf, portAt, topOf};
 ghost use Rattle.list_runs.specs.Needs.{Open, Stretched, RoomFor, Ended, Sweepable, Swept};
 use prefix::Prefix;
-use routes::Answer;
+use refusals::Answer;
+use refusals::NO_ROOM;
+use refusals::TOO_MANY_RUNS;
 use routes::ROUTE_SIZE;
 use routes::check_list;
-use routes::refusal::NO_ROOM;
-use routes::refusal::TOO_MANY_RUNS;
 use routes::route_at;
 
 // The words of a run in a listing: first address, last address, port.

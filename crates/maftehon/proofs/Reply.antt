@@ -3,10 +3,11 @@ use mathlib.Core.Path.{_≡_, ap, _∙_}
 use mathlib.Core.List.{List}
 use Prim.Native.Nat.{ℕ}
 use Rattle.promise.specs.Over.{Outcome, outcome}
-use Rattle.routes.specs.declared.Answer.{Answer}
+use Rattle.refusals.specs.declared.Answer.{Answer}
 use Rattle.image_build.specs.Build.{Left, left}
 use Rattle.image_build.specs.declared.Built.{Built}
-use Rattle.maftehon.specs.Reply.{Reply, counted, built, replied, imaged, repliedImage}
+use Rattle.maftehon.specs.Reply.{built, imaged, repliedImage}
+use Rattle.refusals.specs.Reply.{Reply, counted, replied}
 
 pub replied-is :
     (x : Answer) (words : List ℕ) (promised : Outcome Answer) (y : Reply) → outcome x words ≡ promised → y ≡ counted x

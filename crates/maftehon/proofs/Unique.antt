@@ -4,7 +4,8 @@ use mathlib.Core.Path.{sym, _∙_}
 use denote.Ref.{now}
 use Rattle.promise.specs.Determined.{Determined}
 use Rattle.promise.specs.Over.{outcome}
-use Rattle.maftehon.specs.Reply.{reply, imaged}
+use Rattle.maftehon.specs.Reply.{imaged}
+use Rattle.refusals.specs.Reply.{reply}
 use Rattle.maftehon.proofs.files.mft_file_read.Kinds as file-read-kinds
 use Rattle.maftehon.proofs.files.mft_file_read.Reads as file-read-reads
 use Rattle.maftehon.proofs.files.mft_file_write.Kinds as file-write-kinds

@@ -2,10 +2,10 @@
 ghost use mathlib.Core.Path.{_≡_};
 ghost use Rattle.promise.specs.Over.{outcome};
 ghost use Rattle.file_rules.specs.Calls.{readFile, writeFile};
-ghost use Rattle.maftehon.specs.Reply.{reply, replied};
-use crate::replies::counted;
+ghost use Rattle.refusals.specs.Reply.{reply, replied};
 use file_read::read_file;
 use file_write::write_file;
+use refusals::reply::counted;
 
 #[no_mangle]
 pub extern "C" fn mft_file_read(file: &[u8], list: &mut [u32], answer: &mut [u32; 2]) -> u32

@@ -2,9 +2,10 @@
 ghost use mathlib.Core.Path.{_≡_};
 ghost use Rattle.image_rules.specs.Lookup.{lookupWords};
 ghost use Rattle.image_build.specs.Build.{buildImage};
-ghost use Rattle.maftehon.specs.Reply.{reply, looked, imaged, repliedImage};
+ghost use Rattle.maftehon.specs.Reply.{imaged, repliedImage};
+ghost use Rattle.refusals.specs.Reply.{reply, looked};
 use crate::replies::built;
-use crate::replies::looked;
+use refusals::reply::looked;
 
 #[no_mangle]
 pub extern "C" fn mft_image_build(

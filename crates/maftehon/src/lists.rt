@@ -4,10 +4,10 @@ ghost use Rattle.promise.specs.Over.{outcome};
 ghost use Rattle.routes.specs.Check.{listCheck};
 ghost use Rattle.routes.specs.Scan.{listScan};
 ghost use Rattle.runs_rules.specs.Listing.{listRuns};
-ghost use Rattle.maftehon.specs.Reply.{reply, placed, counted, replied};
-use crate::replies::counted;
-use crate::replies::placed;
+ghost use Rattle.refusals.specs.Reply.{reply, placed, counted, replied};
 use list_runs::list_runs;
+use refusals::reply::counted;
+use refusals::reply::placed;
 use routes::check_list;
 use routes::scan_list;
 

@@ -8,10 +8,10 @@ ghost use Rattle.table_rules.specs.Save.{saveInto};
 ghost use Rattle.table_lookup.specs.Good.{tableCheck};
 ghost use Rattle.table_update.specs.Calls.{announceInto, withdrawInto, buildInto};
 ghost use Rattle.table_runs.specs.TableRuns.{tableRuns};
-ghost use Rattle.maftehon.specs.Reply.{reply, placed, looked, replied};
-use crate::replies::counted;
-use crate::replies::looked;
-use crate::replies::placed;
+ghost use Rattle.refusals.specs.Reply.{reply, placed, looked, replied};
+use refusals::reply::counted;
+use refusals::reply::looked;
+use refusals::reply::placed;
 use table_runs::table_runs;
 use table_save::save;
 

@@ -11,10 +11,10 @@ use lib.Seq.{take-at}
 use borrow.Author.Tests.{eq-eqb, ne-eqb, eqb-true, eqb-false, le-leb, lt-leb, leb-true, leb-false}
 use Rattle.promise.specs.Over.{Outcome, outcome, over}
 use Rattle.lists.proofs.Tests.{way}
-use Rattle.routes.specs.Refusals.{noRoom, refused, accepted}
+use Rattle.refusals.specs.Refusals.{noRoom, refused, accepted}
 use Rattle.routes.specs.Routes.{routeSize, routeAt, routeCount, listOfRoutes}
 use Rattle.lists.specs.Numbered.{listOf}
-use Rattle.routes.specs.declared.Answer.{Answer}
+use Rattle.refusals.specs.declared.Answer.{Answer}
 use Rattle.routes.specs.declared.Route.{Route}
 use Rattle.file_rules.specs.Bytes.{Bytes}
 use Rattle.file_rules.specs.File.{fileRoute, FileWidth}

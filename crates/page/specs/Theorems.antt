@@ -4,7 +4,7 @@ use mathlib.Core.List.{List, [], _∷_, _++_}
 use Prim.Native.Nat.{ℕ, _*_, _+_, _-_, _^_, _≤_, _<_}
 use lib.ListN.{length}
 use Rattle.promise.specs.Over.{outcome}
-use Rattle.routes.specs.Refusals.{noRoom, refused}
+use Rattle.refusals.specs.Refusals.{noRoom, refused}
 use Rattle.file_rules.specs.File.{fileRoute}
 use Rattle.file_rules.specs.Check.{fileCheck}
 use Rattle.runs_rules.specs.Runs.{Run, run, Lists}

@@ -4,7 +4,7 @@ ghost use mathlib.Core.List.{_++_};
 ghost use Prim.Native.Nat.{_+_, _*_, _≤_};
 ghost use lib.ListN.{length};
 ghost use Rattle.promise.specs.Over.{outcome};
-ghost use Rattle.routes.specs.Refusals.{refused};
+ghost use Rattle.refusals.specs.Refusals.{refused};
 ghost use Rattle.routes.specs.Routes.{routeAt, routeCount};
 ghost use Rattle.lists.specs.Numbered.{listOf};
 ghost use Rattle.runs_rules.specs.Runs.{run};
@@ -18,8 +18,8 @@ use put::put_byte;
 use put::put_bytes;
 use put::put_dotted;
 use put::put_number;
+use refusals::NO_ROOM;
 use routes::ROUTE_SIZE;
-use routes::refusal::NO_ROOM;
 
 mod put;
 

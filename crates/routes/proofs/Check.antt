@@ -9,12 +9,13 @@ use lib.Dec.{eqb, leb}
 use lib.ListN.{length}
 use borrow.Author.Tests.{eq-eqb, ne-eqb, eqb-true, eqb-false, le-leb, lt-leb, leb-true, leb-false}
 use Rattle.lists.proofs.Tests.{way}
-use Rattle.routes.specs.Refusals.{longPrefix, notAbove, mostRoutes, refused}
+use Rattle.refusals.specs.Refusals.{longPrefix, notAbove, refused}
+use Rattle.routes.specs.Bounds.{mostRoutes}
 use Rattle.routes.specs.Routes.{routeAt, routeCount, ValidList, Words, Sized}
 use Rattle.routes.specs.Check.{above, faultAt, firstFault, routesCheck, listCheck}
 use Rattle.routes.specs.Theorems.{CheckDone, CheckRefused, CheckUnsized, CheckSized}
 use Rattle.routes.specs.declared.Route.{Route}
-use Rattle.routes.specs.declared.Answer.{Answer}
+use Rattle.refusals.specs.declared.Answer.{Answer}
 use Rattle.routes.proofs.Faults.{fault-range, fault-none, none-fault, faultless-valid, faultless-rises, valid-faultless}
 use Rattle.routes.proofs.First.{NoneBelow, Searched, searched, first-fault-none, first-fault-found, accepted-none, refused-found}
 

@@ -10,7 +10,8 @@ use Rattle.prefix.specs.Prefixes.{prefix}
 use Rattle.prefix.specs.declared.Prefix.{Prefix}
 use Rattle.bits.specs.Prefix.{span, clear, precedes}
 use Rattle.lists.proofs.Tests.{both}
-use Rattle.routes.specs.Refusals.{unless, longPrefix, spareBits, wrongPort, notAbove, lastPort}
+use Rattle.refusals.specs.Refusals.{unless, longPrefix, spareBits, wrongPort, notAbove}
+use Rattle.routes.specs.Bounds.{lastPort}
 use Rattle.routes.specs.Routes.{ValidRoute}
 use Rattle.routes.specs.Check.{isPort, prefixFault, routeFault, above, faultAt}
 use Rattle.routes.specs.declared.Route.{Route}

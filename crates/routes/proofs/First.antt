@@ -10,9 +10,9 @@ use lib.Dec.{eqb}
 use borrow.Author.Count.{below-none, below-more}
 use borrow.Author.Tests.{eqb-true, eqb-false, ne-eqb}
 use Rattle.lists.proofs.Tests.{way}
-use Rattle.routes.specs.Refusals.{refused, accepted}
+use Rattle.refusals.specs.Refusals.{refused, accepted}
 use Rattle.routes.specs.Check.{firstFault, FirstFault}
-use Rattle.routes.specs.declared.Answer.{Answer}
+use Rattle.refusals.specs.declared.Answer.{Answer}
 
 -- one turn at place i of n
 module _ (f : ℕ → ℕ) (n i : ℕ) where

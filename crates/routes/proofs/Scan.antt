@@ -11,13 +11,13 @@ use lib.Dec.{leb}
 use borrow.Author.Tests.{le-leb, lt-leb, eq-eqb, ne-eqb}
 use Rattle.lists.proofs.Tests.{way}
 use Rattle.trie.specs.Scan.{longest, plainScan}
-use Rattle.routes.specs.Refusals.{accepted, andThen}
+use Rattle.refusals.specs.Refusals.{accepted, andThen}
 use Rattle.routes.specs.Routes.{routeAt, routeCount, ValidList, Words}
 use Rattle.lists.specs.Numbered.{listOf}
 use Rattle.routes.specs.Check.{listCheck}
 use Rattle.routes.specs.Scan.{routeMatches, scanOf, lastMatch, listScan}
 use Rattle.routes.specs.Theorems.{ScanIsLast}
-use Rattle.routes.specs.declared.Answer.{Answer}
+use Rattle.refusals.specs.declared.Answer.{Answer}
 use Rattle.routes.specs.declared.Route.{Route}
 use Rattle.routes.proofs.Check.{accepted-valid}
 use Rattle.lists.proofs.Numbered.{list-of-snoc, mem-list-of}

@@ -2,10 +2,6 @@
 use mathlib.Core.Path.{sym, _∙_}
 use denote.Ref.{now}
 use Rattle.promise.specs.Determined.{Determined}
-use Rattle.routes.proofs.Answer.refused.Reads as refused-reads
-use Rattle.routes.proofs.Answer.refused.Kinds as refused-kinds
-use Rattle.routes.proofs.Answer.accepted.Reads as accepted-reads
-use Rattle.routes.proofs.Answer.accepted.Kinds as accepted-kinds
 use Rattle.routes.proofs.is_port.Reads as is-port-reads
 use Rattle.routes.proofs.is_port.Kinds as is-port-kinds
 use Rattle.routes.proofs.prefix_fault.Reads as prefix-fault-reads
@@ -18,20 +14,10 @@ use Rattle.routes.proofs.check_list.Reads as check-list-reads
 use Rattle.routes.proofs.check_list.Kinds as check-list-kinds
 use Rattle.routes.proofs.scan_list.Reads as scan-list-reads
 use Rattle.routes.proofs.scan_list.Kinds as scan-list-kinds
-use Rattle.routes.proofs.found.Found.found.Kinds as found-kinds
-use Rattle.routes.proofs.found.Found.found.Reads as found-reads
-use Rattle.routes.proofs.found.Found.lost.Kinds as lost-kinds
-use Rattle.routes.proofs.found.Found.lost.Reads as lost-reads
 use Rattle.routes.proofs.Route.prefix.Kinds as prefix-kinds
 use Rattle.routes.proofs.Route.prefix.Reads as prefix-reads
 use Rattle.routes.proofs.store_route.Kinds as store-route-kinds
 use Rattle.routes.proofs.store_route.Reads as store-route-reads
-
-refused-unique : Determined 0 refused-kinds.ps refused-kinds.r refused-reads.Post (λ κs x s. x)
-refused-unique κs a x y s t p q = p ∙ sym q
-
-accepted-unique : Determined 0 accepted-kinds.ps accepted-kinds.r accepted-reads.Post (λ κs x s. x)
-accepted-unique κs a x y s t p q = p ∙ sym q
 
 is-port-unique : Determined 0 is-port-kinds.ps is-port-kinds.r is-port-reads.Post (λ κs x s. x)
 is-port-unique κs a x y s t p q = p ∙ sym q
@@ -50,12 +36,6 @@ check-list-unique κs a x y s t p q = p ∙ sym q
 
 scan-list-unique : Determined 1 scan-list-kinds.ps scan-list-kinds.r scan-list-reads.Post (λ κs x s. x)
 scan-list-unique κs a x y s t p q = p ∙ sym q
-
-found-unique : Determined 0 found-kinds.ps found-kinds.r found-reads.Post (λ κs x s. x)
-found-unique κs a x y s t p q = p ∙ sym q
-
-lost-unique : Determined 0 lost-kinds.ps lost-kinds.r lost-reads.Post (λ κs x s. x)
-lost-unique κs a x y s t p q = p ∙ sym q
 
 prefix-unique : Determined 0 prefix-kinds.ps prefix-kinds.r prefix-reads.Post (λ κs x s. x)
 prefix-unique κs a x y s t p q = p ∙ sym q

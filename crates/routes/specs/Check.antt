@@ -6,10 +6,11 @@ use Prim.Native.Nat.{ℕ, zero, suc, _+_, _-_, _%_, _<_}
 use lib.Dec.{eqb, leb, ltb}
 use lib.ListN.{length}
 use Rattle.bits.specs.Prefix.{clear, precedes}
-use Rattle.routes.specs.Refusals.{wrongSize, longPrefix, spareBits, wrongPort, notAbove, tooManyRoutes, mostRoutes, lastPort, refused, accepted, unless}
+use Rattle.refusals.specs.Refusals.{wrongSize, longPrefix, spareBits, wrongPort, notAbove, tooManyRoutes, refused, accepted, unless}
+use Rattle.routes.specs.Bounds.{mostRoutes, lastPort}
 use Rattle.routes.specs.Routes.{routeAt, routeCount}
 use Rattle.routes.specs.declared.Route.{Route}
-use Rattle.routes.specs.declared.Answer.{Answer}
+use Rattle.refusals.specs.declared.Answer.{Answer}
 
 abbrev pub isPort : ℕ → Bool
 isPort port = ltb 0 port && leb port lastPort

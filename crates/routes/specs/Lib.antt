@@ -1,6 +1,6 @@
 -- The published refusals, the route list and its plain scan.
-pub mod Refusals
 pub mod Routes
 pub mod Check
 pub mod Scan
 pub mod Theorems
+pub mod Bounds

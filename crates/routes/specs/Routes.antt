@@ -10,7 +10,7 @@ use Rattle.promise.specs.Over.{storeThree}
 use Rattle.bits.specs.Bits.{prefixBits, bits}
 use Rattle.bits.specs.Prefix.{Valid, precedes}
 use Rattle.trie.specs.Routes.{Route as BitRoute}
-use Rattle.routes.specs.Refusals.{mostRoutes, lastPort}
+use Rattle.routes.specs.Bounds.{mostRoutes, lastPort}
 use Rattle.routes.specs.declared.Route.{Route}
 use Rattle.lists.specs.Numbered.{inOrder}
 use Rattle.lists.specs.Flat.{flat}

@@ -4,12 +4,12 @@ use mathlib.Core.List.{List}
 use Prim.Native.Nat.{ℕ, zero, suc}
 use Rattle.bits.specs.Prefix.{matches}
 use Rattle.trie.specs.Scan.{plainScan}
-use Rattle.routes.specs.Refusals.{accepted, andThen}
+use Rattle.refusals.specs.Refusals.{accepted, andThen}
 use Rattle.routes.specs.Routes.{routeAt, routeCount}
 use Rattle.lists.specs.Numbered.{listOf}
 use Rattle.routes.specs.Check.{listCheck}
 use Rattle.routes.specs.declared.Route.{Route}
-use Rattle.routes.specs.declared.Answer.{Answer}
+use Rattle.refusals.specs.declared.Answer.{Answer}
 
 -- the route's prefix matches the address
 abbrev pub routeMatches : ℕ → ℕ → Route → Bool

@@ -8,7 +8,8 @@ use lib.ListN.{length}
 use Rattle.bits.specs.Bits.{bits}
 use Rattle.trie.specs.Routes.{held}
 use Rattle.trie.specs.Scan.{scan}
-use Rattle.routes.specs.Refusals.{wrongSize, longPrefix, notAbove, tooManyRoutes, mostRoutes, refused, accepted}
+use Rattle.refusals.specs.Refusals.{wrongSize, longPrefix, notAbove, tooManyRoutes, refused, accepted}
+use Rattle.routes.specs.Bounds.{mostRoutes}
 use Rattle.routes.specs.Routes.{routeAt, routeCount, bitRoute, ValidList, Words, Sized}
 use Rattle.lists.specs.Numbered.{listOf}
 use Rattle.routes.specs.Check.{faultAt, FirstFault, listCheck}

@@ -3,29 +3,18 @@ ghost use mathlib.Core.Path.{_≡_};
 ghost use mathlib.Core.Bool.{cond};
 ghost use lib.ListN.{getD};
 ghost use Rattle.prefix.specs.Prefixes.{prefix};
-ghost use Rattle.routes.specs.Refusals.{refused, accepted};
+ghost use Rattle.refusals.specs.Refusals.{refused, accepted};
 ghost use Rattle.routes.specs.Routes.{routeAt, storeRoute};
 ghost use Rattle.routes.specs.Check.{isPort, prefixFault, routeFault, faultAt, listCheck};
 ghost use Rattle.routes.specs.Scan.{routeMatches, listScan};
 use prefix::Prefix;
-use refusal::LAST_PORT;
-use refusal::LONG_PREFIX;
-use refusal::MOST_ROUTES;
-use refusal::NOT_ABOVE;
-use refusal::SPARE_BITS;
-use refusal::TOO_MANY_ROUTES;
-use refusal::WRONG_PORT;
-use refusal::WRONG_SIZE;
-
-pub mod found;
-pub mod refusal;
-
-// What a call answers: the refusal's number and place, both 0 where it is done, and its one other result.
-pub struct Answer {
-    pub number: u32,
-    pub place: u32,
-    pub count: u32,
-}
+use refusals::Answer;
+use refusals::LONG_PREFIX;
+use refusals::NOT_ABOVE;
+use refusals::SPARE_BITS;
+use refusals::TOO_MANY_ROUTES;
+use refusals::WRONG_PORT;
+use refusals::WRONG_SIZE;
 
 // A route: a prefix and a port.
 pub struct Route {
@@ -34,32 +23,14 @@ pub struct Route {
     pub port: u32,
 }
 
+// "At most 4,096 routes."
+pub const MOST_ROUTES: usize = 4096;
+
+// "A route is a prefix and a port, 1..4094."
+pub const LAST_PORT: u32 = 4094;
+
 // The words of a route in a list: value, length, port.
 pub const ROUTE_SIZE: usize = 3;
-
-impl Answer {
-    // A refusal: its number and its place, and the other result 0.
-    pub fn refused(number: u32, place: u32) -> Self
-        ensures { λ r. ⌜ r ≡ refused number place ⌝ }
-    {
-        Self {
-            number,
-            place,
-            count: 0,
-        }
-    }
-
-    // Done, with a result.
-    pub fn accepted(count: u32) -> Self
-        ensures { λ r. ⌜ r ≡ accepted count ⌝ }
-    {
-        Self {
-            number: 0,
-            place: 0,
-            count,
-        }
-    }
-}
 
 impl Route {
     // No route: port 0 is never a route's port.

@@ -5,7 +5,7 @@ use Prim.Native.Nat.{ℕ, _+_, _*_, _^_, _<_}
 use native.Mathlib.Omega.{arith}
 use lib.ListN.{length}
 use Rattle.trie.specs.Scan.{plainScan}
-use Rattle.routes.specs.Refusals.{accepted}
+use Rattle.refusals.specs.Refusals.{accepted}
 use Rattle.routes.specs.Routes.{routeSize, routeAt, routeCount, ValidList}
 use Rattle.routes.specs.Check.{faultAt, listCheck}
 use Rattle.routes.specs.Scan.{routeMatches}

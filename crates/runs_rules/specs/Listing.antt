@@ -6,12 +6,12 @@ use Prim.Native.Nat.{ℕ, _/_, _^_}
 use lib.Dec.{eqb, leb}
 use lib.ListN.{length}
 use Rattle.promise.specs.Over.{Outcome, outcome, over}
-use Rattle.routes.specs.Refusals.{noRoom, tooManyRuns, refused, accepted}
+use Rattle.refusals.specs.Refusals.{noRoom, tooManyRuns, refused, accepted}
 use Rattle.routes.specs.Routes.{routeAt, routeCount}
 use Rattle.routes.specs.Check.{listCheck}
 use Rattle.routes.specs.Scan.{scanOf}
 use Rattle.routes.specs.declared.Route.{Route}
-use Rattle.routes.specs.declared.Answer.{Answer}
+use Rattle.refusals.specs.declared.Answer.{Answer}
 use Rattle.runs_rules.specs.Runs.{Run, runs, runSize, runWords}
 
 -- the listing of n routes: the runs of their plain scan over the whole address space

@@ -4,7 +4,7 @@ use mathlib.Core.List.{List, [], _∷_}
 use Prim.Native.Nat.{ℕ, _+_, _-_, _*_, _^_, _≤_, _<_}
 use lib.ListN.{length}
 use Rattle.promise.specs.Over.{over, outcome}
-use Rattle.routes.specs.Refusals.{noRoom, refused, accepted}
+use Rattle.refusals.specs.Refusals.{noRoom, refused, accepted}
 use Rattle.routes.specs.Routes.{routeAt, routeCount, ValidList}
 use Rattle.routes.specs.Check.{listCheck}
 use Rattle.routes.specs.Scan.{scanOf}

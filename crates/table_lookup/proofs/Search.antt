@@ -7,10 +7,10 @@ use native.Mathlib.Nat.{sub-zero}
 use borrow.Author.Tests.{eq-eqb, ne-eqb, lt-ltb, le-ltb}
 use Rattle.table_rules.specs.Rows.{Mem, child}
 use Rattle.table_rules.specs.Lookup.{wrongRow, endsAt, betterOf, visit, onward, walk, lookupIn}
-use Rattle.routes.specs.Refusals.{found, lost, notInOrder}
+use Rattle.refusals.specs.Refusals.{found, lost, notInOrder}
 use Rattle.bits.specs.Bits.{bitBefore}
 use Rattle.table_rules.specs.declared.Row.{Row}
-use Rattle.routes.specs.declared.found.Found.{Found}
+use Rattle.refusals.specs.declared.found.Found.{Found}
 use Rattle.table_rules.proofs.Right.{child-lt}
 
 -- a row by its two tests

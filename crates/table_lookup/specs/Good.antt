@@ -2,8 +2,8 @@
 -- Assumes nothing.
 use mathlib.Core.Bool.{cond}
 use Prim.Native.Nat.{ℕ}
-use Rattle.routes.specs.Refusals.{notInOrder, refused, accepted}
-use Rattle.routes.specs.declared.Answer.{Answer}
+use Rattle.refusals.specs.Refusals.{notInOrder, refused, accepted}
+use Rattle.refusals.specs.declared.Answer.{Answer}
 use Rattle.table_rules.specs.Rows.{Mem}
 use Rattle.table_rules.specs.Check.{isGood}
 

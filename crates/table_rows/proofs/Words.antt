@@ -12,7 +12,7 @@ use lib.ListN.{length, getD}
 use lib.Seq.{sets, length-sets}
 use Rattle.table_rules.specs.Rows.{Stores}
 use Rattle.table_rules.specs.Withdraw.{zeroRow}
-use Rattle.routes.specs.Refusals.{mostRoutes}
+use Rattle.routes.specs.Bounds.{mostRoutes}
 use Rattle.table_rows.specs.Words.{rowCount, fiveWords, wholeRow, storeWhole, rowAt, storeRow}
 use Rattle.table_rules.specs.declared.Row.{Row}
 use Rattle.lists.proofs.Sets.{get-sets-same, get-sets-other}

@@ -5,7 +5,7 @@ use Prim.Native.Nat.{ℕ, _+_, _*_, _/_, min}
 use mathlib.Core.Bool.{cond}
 use lib.Dec.{ltb}
 use lib.ListN.{length, getD, set}
-use Rattle.routes.specs.Refusals.{mostRoutes}
+use Rattle.routes.specs.Bounds.{mostRoutes}
 use Rattle.table_rules.specs.Rows.{Layout}
 use Rattle.table_rules.specs.Withdraw.{zeroRow}
 use Rattle.table_rules.specs.declared.Row.{Row}

@@ -5,8 +5,8 @@ ghost use Rattle.prefix.specs.Prefixes.{prefix};
 ghost use Rattle.table_rules.specs.Rows.{routeOf};
 ghost use Rattle.table_rows.specs.Words.{rowCount, capacity, rowAt, storeRow};
 use prefix::Prefix;
+use routes::MOST_ROUTES;
 use routes::Route;
-use routes::refusal::MOST_ROUTES;
 use table_rules::Row;
 
 // The words of a row.

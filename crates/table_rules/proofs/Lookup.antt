@@ -21,10 +21,10 @@ use Rattle.routes.specs.Routes.{ValidRoute}
 use Rattle.table_rules.specs.Rows.{Mem, child, routeOf}
 use Rattle.table_rules.specs.Holds.{Names, RowHolds, Holds, hit, times, Placed, HeldIn, GoodFor}
 use Rattle.table_rules.specs.Lookup.{wrongRow, rowMatches, endsAt, betterOf, visit, onward, walk, lookupIn}
-use Rattle.routes.specs.Refusals.{found, lost, notInOrder}
+use Rattle.refusals.specs.Refusals.{found, lost, notInOrder}
 use Rattle.table_rules.specs.Theorems.{LookupIsScan, ReadsLe}
 use Rattle.table_rules.specs.declared.Row.{Row}
-use Rattle.routes.specs.declared.found.Found.{Found}
+use Rattle.refusals.specs.declared.found.Found.{Found}
 use Rattle.table_rules.proofs.Paths.{At, at-len, head-path, at-priority, at-matches}
 use Rattle.table_rules.proofs.Holds.{hit-same, row-at, child-lt, Below, below-child, below-once}
 

@@ -6,7 +6,7 @@ use lib.Dec.{leb, ltb}
 use borrow.Author.Tests.{eq-eqb, eqb-true, lt-ltb, le-ltb, ltb-true, ltb-false, le-leb, lt-leb, leb-true, leb-false, not-false}
 use Rattle.bits.specs.Prefix.{span, head, clear, matches}
 use Rattle.lists.proofs.Tests.{both, none-of-seven}
-use Rattle.routes.specs.Refusals.{lastPort}
+use Rattle.routes.specs.Bounds.{lastPort}
 use Rattle.routes.specs.Check.{isPort}
 use Rattle.table_rules.specs.Rows.{child}
 use Rattle.table_rules.specs.Lookup.{wrongRow}

@@ -21,7 +21,7 @@ use Rattle.trie.specs.Trie.{Trie, leaf, node, IsTrie}
 use Rattle.trie.proofs.Listed.{held-in, held-other}
 use Rattle.trie.proofs.Remove.{own-out}
 use Rattle.trie.proofs.Routes.{upd-other, none-or-some}
-use Rattle.routes.specs.Refusals.{mostRoutes}
+use Rattle.routes.specs.Bounds.{mostRoutes}
 use Rattle.routes.specs.Routes.{route, bitRoute, ValidRoute}
 use Rattle.routes.specs.declared.Route.{Route}
 use Rattle.table_rules.specs.Rows.{Mem, child, routeOf}

@@ -13,7 +13,7 @@ use Rattle.lists.specs.Numbered.{listOf}
 use Rattle.routes.specs.declared.Route.{Route}
 use Rattle.routes.proofs.Held.{scan-is-held}
 use Rattle.table_rules.specs.Save.{saved}
-use Rattle.routes.specs.declared.found.Found.{Found}
+use Rattle.refusals.specs.declared.found.Found.{Found}
 use Rattle.table_rules.proofs.Lookup.{lookup-is-scan}
 use Rattle.table_rules.specs.Theorems.{LookupIsSavedScan}
 use Rattle.table_rules.proofs.Good.{check-is-good}

@@ -3,11 +3,11 @@ use mathlib.Core.Bool.{Bool, cond, not, _&&_, _||_}
 use Prim.Native.Nat.{ℕ, zero, suc, _+_, _-_}
 use lib.Dec.{eqb, leb, ltb}
 use Rattle.bits.specs.Prefix.{clear, matches}
-use Rattle.routes.specs.Refusals.{notInOrder, found, lost}
+use Rattle.refusals.specs.Refusals.{notInOrder, found, lost}
 use Rattle.routes.specs.Check.{isPort}
 use Rattle.table_rules.specs.Rows.{Mem, child}
 use Rattle.table_rules.specs.declared.Row.{Row}
-use Rattle.routes.specs.declared.found.Found.{Found}
+use Rattle.refusals.specs.declared.found.Found.{Found}
 use Rattle.bits.specs.Bits.{bitBefore}
 
 -- "a row read has either child number n or more, a length above 32 or below its depth, bits past its length, a port outside

@@ -6,9 +6,9 @@ use lib.Dec.{eqb, leb}
 use lib.ListN.{length}
 use Rattle.promise.specs.Over.{over, Outcome, outcome}
 use Rattle.bits.specs.Prefix.{precedes}
-use Rattle.routes.specs.Refusals.{noRoom, notInOrder, refused, accepted}
+use Rattle.refusals.specs.Refusals.{noRoom, notInOrder, refused, accepted}
 use Rattle.routes.specs.Routes.{wordsOf}
-use Rattle.routes.specs.declared.Answer.{Answer}
+use Rattle.refusals.specs.declared.Answer.{Answer}
 use Rattle.routes.specs.declared.Route.{Route}
 use Rattle.table_rules.specs.Rows.{Mem, routeOf}
 use Rattle.table_rules.specs.Check.{isGood}

@@ -11,7 +11,8 @@ use Rattle.bits.specs.Prefix.{Valid}
 use Rattle.trie.specs.Routes.{Routes, upd, held}
 use Rattle.trie.specs.Scan.{scan}
 use Rattle.trie.specs.Trie.{reads}
-use Rattle.routes.specs.Refusals.{mostRoutes, found}
+use Rattle.refusals.specs.Refusals.{found}
+use Rattle.routes.specs.Bounds.{mostRoutes}
 use Rattle.routes.specs.Routes.{route, bitRoute, ValidRoute, ValidList}
 use Rattle.routes.specs.declared.Route.{Route}
 use Rattle.table_rules.specs.Rows.{Mem, Layout, Stores}

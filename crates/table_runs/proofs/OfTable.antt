@@ -13,10 +13,11 @@ use Rattle.promise.specs.Over.{Outcome, outcome, over}
 use Rattle.bits.specs.Bits.{bits}
 use Rattle.lists.proofs.Tests.{way}
 use Rattle.trie.specs.Scan.{scan}
-use Rattle.routes.specs.Refusals.{notInOrder, mostRoutes, refused, accepted}
+use Rattle.refusals.specs.Refusals.{notInOrder, refused, accepted}
+use Rattle.routes.specs.Bounds.{mostRoutes}
 use Rattle.routes.specs.Routes.{route, routeSize, routeAt, wordsOf}
 use Rattle.routes.specs.Scan.{scanOf}
-use Rattle.routes.specs.declared.Answer.{Answer}
+use Rattle.refusals.specs.declared.Answer.{Answer}
 use Rattle.table_rows.specs.Words.{rowCount}
 use Rattle.table_rows.specs.Words.{capacity as capacityOf}
 use Rattle.table_rules.specs.Rows.{Mem}
@@ -28,7 +29,7 @@ use Rattle.table_rules.proofs.Good.{check-is-good}
 use Rattle.table_rules.proofs.Save.{saved-is}
 use Rattle.table_rules.proofs.SavedLookup.{lookup-is-saved-scan}
 use Rattle.table_rules.proofs.Lookup.{lookup-is-scan}
-use Rattle.routes.specs.declared.found.Found.{Found}
+use Rattle.refusals.specs.declared.found.Found.{Found}
 use Rattle.routes.proofs.Words.{get-words-at, length-words}
 use Rattle.runs_rules.specs.Runs.{Run, runSize}
 use Rattle.runs_rules.specs.Listing.{listed, mostRuns, writeRuns, listRuns}

@@ -4,9 +4,9 @@ use mathlib.Core.List.{List}
 use Prim.Native.Nat.{ℕ}
 use lib.ListN.{getD}
 use Rattle.promise.specs.Over.{Outcome, outcome}
-use Rattle.routes.specs.Refusals.{notInOrder, refused}
+use Rattle.refusals.specs.Refusals.{notInOrder, refused}
 use Rattle.routes.specs.Routes.{route}
-use Rattle.routes.specs.declared.Answer.{Answer}
+use Rattle.refusals.specs.declared.Answer.{Answer}
 use Rattle.routes.specs.declared.Route.{Route}
 use Rattle.table_rules.specs.Rows.{Mem}
 use Rattle.table_rules.specs.Check.{isGood}

@@ -8,7 +8,8 @@ use Rattle.promise.specs.Over.{outcome, over}
 use Rattle.bits.specs.Bits.{bits}
 use Rattle.trie.specs.Routes.{Routes}
 use Rattle.trie.specs.Scan.{scan}
-use Rattle.routes.specs.Refusals.{notInOrder, mostRoutes, refused, accepted}
+use Rattle.refusals.specs.Refusals.{notInOrder, refused, accepted}
+use Rattle.routes.specs.Bounds.{mostRoutes}
 use Rattle.table_rules.specs.Rows.{Mem}
 use Rattle.table_rules.specs.Holds.{GoodFor}
 use Rattle.table_rules.specs.Check.{isGood}

@@ -4,9 +4,9 @@ ghost use Rattle.promise.specs.Over.{outcome};
 ghost use Rattle.table_rows.specs.Words.{capacity, rowAt};
 ghost use Rattle.table_runs.specs.TableRuns.{tableRuns};
 use list_runs::list_runs;
-use routes::Answer;
+use refusals::Answer;
+use routes::MOST_ROUTES;
 use routes::ROUTE_SIZE;
-use routes::refusal::MOST_ROUTES;
 use table_save::save;
 
 // The words of as many routes as a table can have.

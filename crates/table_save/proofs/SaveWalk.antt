@@ -10,7 +10,8 @@ use lib.ListN.{length, drop, length-append}
 use lib.Seq.{sets, sets-eq}
 use borrow.Author.Tests.{eq-eqb, ne-eqb, le-leb, lt-leb}
 use Rattle.promise.specs.Over.{over, outcome}
-use Rattle.routes.specs.Refusals.{noRoom, notInOrder, mostRoutes, refused, accepted}
+use Rattle.refusals.specs.Refusals.{noRoom, notInOrder, refused, accepted}
+use Rattle.routes.specs.Bounds.{mostRoutes}
 use Rattle.routes.specs.declared.Route.{Route}
 use Rattle.table_rules.specs.Rows.{Mem, child, routeOf}
 use Rattle.table_rules.specs.Check.{isGood}

@@ -8,9 +8,9 @@ use native.Mathlib.Omega.{arith}
 use lib.Dec.{eqb, ltb}
 use borrow.Author.Tests.{eq-eqb, ne-eqb, lt-ltb, le-ltb}
 use Rattle.promise.specs.Over.{Outcome, outcome}
-use Rattle.routes.specs.Refusals.{noRoom, notHeld, notInOrder, accepted}
+use Rattle.refusals.specs.Refusals.{noRoom, notHeld, notInOrder, accepted}
 use Rattle.routes.specs.Check.{prefixFault, routeFault}
-use Rattle.routes.specs.declared.Answer.{Answer}
+use Rattle.refusals.specs.declared.Answer.{Answer}
 use Rattle.routes.specs.declared.Route.{Route}
 use Rattle.table_rules.specs.Rows.{Layout}
 use Rattle.table_rules.specs.Check.{isGood}

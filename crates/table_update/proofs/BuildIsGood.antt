@@ -10,7 +10,7 @@ use Rattle.promise.specs.Over.{outcome}
 use Rattle.bits.specs.Bits.{bits, prefixBits}
 use Rattle.trie.specs.Routes.{Routes, held}
 use Rattle.trie.specs.Scan.{scan}
-use Rattle.routes.specs.Refusals.{accepted}
+use Rattle.refusals.specs.Refusals.{accepted}
 use Rattle.routes.specs.Routes.{bitRoute, ValidRoute, ValidList}
 use Rattle.lists.specs.Numbered.{listOf}
 use Rattle.routes.specs.Check.{routeFault}
@@ -20,7 +20,7 @@ use Rattle.table_rules.specs.Rows.{Layout, Stores}
 use Rattle.table_rules.specs.Holds.{Placed, GoodFor}
 use Rattle.table_rules.specs.Check.{isGood}
 use Rattle.table_rules.specs.Announce.{isHeld}
-use Rattle.routes.specs.declared.found.Found.{Found}
+use Rattle.refusals.specs.declared.found.Found.{Found}
 use Rattle.table_rules.proofs.Table.{held-is}
 use Rattle.table_rules.proofs.Lookup.{lookup-is-scan}
 use Rattle.table_rules.proofs.Good.{check-is-good, placed→held}

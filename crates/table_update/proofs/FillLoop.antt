@@ -14,11 +14,12 @@ use Rattle.bits.specs.Bits.{Bits, prefixBits}
 use Rattle.trie.specs.Routes.{Route as BitRoute, Routes, noRoutes, upd, heldFrom, held}
 use Rattle.trie.specs.Trie.{leaf}
 use Rattle.trie.proofs.Routes.{same-no, upd-other}
-use Rattle.routes.specs.Refusals.{mostRoutes, noRoom, refused, accepted}
+use Rattle.refusals.specs.Refusals.{noRoom, refused, accepted}
+use Rattle.routes.specs.Bounds.{mostRoutes}
 use Rattle.routes.specs.Routes.{routeAt, routeCount, bitRoute, ValidList}
 use Rattle.lists.specs.Numbered.{listOf}
 use Rattle.routes.specs.Check.{listCheck}
-use Rattle.routes.specs.declared.Answer.{Answer}
+use Rattle.refusals.specs.declared.Answer.{Answer}
 use Rattle.routes.specs.declared.Route.{Route}
 use Rattle.routes.proofs.Check.{accepted-sized}
 use Rattle.routes.proofs.Rising.{prefixes-differ}

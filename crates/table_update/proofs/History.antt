@@ -14,10 +14,11 @@ use Rattle.bits.specs.Prefix.{span, clear, Valid}
 use Rattle.lists.proofs.Tests.{way, both}
 use Rattle.trie.specs.Routes.{Routes, noRoutes, upd}
 use Rattle.trie.proofs.Routes.{none-or-some}
-use Rattle.routes.specs.Refusals.{mostRoutes, lastPort, noRoom, notHeld, notInOrder, accepted, unless}
+use Rattle.refusals.specs.Refusals.{noRoom, notHeld, notInOrder, accepted, unless}
+use Rattle.routes.specs.Bounds.{mostRoutes, lastPort}
 use Rattle.routes.specs.Routes.{ValidRoute}
 use Rattle.routes.specs.Check.{isPort, prefixFault, routeFault}
-use Rattle.routes.specs.declared.Answer.{Answer}
+use Rattle.refusals.specs.declared.Answer.{Answer}
 use Rattle.routes.specs.declared.Route.{Route}
 use Rattle.routes.proofs.Faults.{unless-none}
 use Rattle.table_rules.specs.Rows.{Layout, Stores}

@@ -4,10 +4,10 @@ use mathlib.Core.List.{List}
 use Prim.Native.Nat.{ℕ, zero, suc, _+_, _-_}
 use lib.Dec.{eqb, leb, ltb}
 use Rattle.promise.specs.Over.{Outcome, outcome}
-use Rattle.routes.specs.Refusals.{noRoom, notHeld, notInOrder, refused, accepted}
+use Rattle.refusals.specs.Refusals.{noRoom, notHeld, notInOrder, refused, accepted}
 use Rattle.routes.specs.Routes.{route, routeAt, routeCount}
 use Rattle.routes.specs.Check.{prefixFault, routeFault, listCheck}
-use Rattle.routes.specs.declared.Answer.{Answer}
+use Rattle.refusals.specs.declared.Answer.{Answer}
 use Rattle.routes.specs.declared.Route.{Route}
 use Rattle.table_rules.specs.Rows.{Layout}
 use Rattle.table_rules.specs.Check.{isGood}

@@ -6,7 +6,7 @@ use lib.Dec.{eqb}
 use Rattle.promise.specs.Over.{Outcome}
 use Rattle.bits.specs.Bits.{Bits, prefixBits, same}
 use Rattle.trie.specs.Routes.{Routes, noRoutes, upd}
-use Rattle.routes.specs.declared.Answer.{Answer}
+use Rattle.refusals.specs.declared.Answer.{Answer}
 use Rattle.routes.specs.declared.Route.{Route}
 use Rattle.table_rules.specs.Rows.{Layout}
 use Rattle.table_update.specs.Calls.{announceInto, withdrawInto}

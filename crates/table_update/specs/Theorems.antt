@@ -5,7 +5,7 @@ use mathlib.Core.List.{List, map}
 use Prim.Native.Nat.{ℕ, _+_, _^_, _<_, _≤_}
 use Rattle.promise.specs.Over.{outcome}
 use Rattle.trie.specs.Routes.{Routes, upd, held}
-use Rattle.routes.specs.Refusals.{accepted}
+use Rattle.refusals.specs.Refusals.{accepted}
 use Rattle.routes.specs.Routes.{bitRoute, ValidList}
 use Rattle.lists.specs.Numbered.{listOf}
 use Rattle.routes.specs.Scan.{scanOf}
@@ -13,7 +13,7 @@ use Rattle.routes.specs.declared.Route.{Route}
 use Rattle.table_rules.specs.Rows.{Layout}
 use Rattle.table_rules.specs.Holds.{GoodFor}
 use Rattle.table_rules.specs.Lookup.{lookupIn}
-use Rattle.routes.specs.declared.found.Found.{Found}
+use Rattle.refusals.specs.declared.found.Found.{Found}
 use Rattle.table_update.specs.Calls.{announceInto, builtFrom}
 use Rattle.table_update.specs.History.{Call, announcing, Table, after, isAccepted, ran, callPrefix, callPort, portAfter, Fits, AllFit}
 

@@ -5,7 +5,7 @@ use maftehon::{Place, Refusal};
 use std::collections::BTreeMap;
 
 const HEADER: &str = include_str!("../../../include/maftehon.h");
-const RATTLE_REFUSALS: &str = include_str!("../../../crates/routes/src/refusal.rt");
+const RATTLE_REFUSALS: &str = include_str!("../../../crates/refusals/src/lib.rt");
 const REFERENCE_REFUSALS: &str = include_str!("../../reference/src/refusal.rs");
 const SYS: &str = include_str!("../../maftehon-sys/src/lib.rs");
 

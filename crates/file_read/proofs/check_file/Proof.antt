@@ -3,7 +3,7 @@ use mathlib.Core.Path.{sym, ap, _∙_}
 use native.Mathlib.Omega.{arith}
 use borrow.Author.Needs.{needs}
 use lib.ListN.{length}
-use Rattle.routes.specs.Refusals.{refused}
+use Rattle.refusals.specs.Refusals.{refused}
 use Rattle.file_rules.proofs.Walk.{check-unheaded}
 use Rattle.file_read.proofs.Steps.{Reached, reached-none, reached-small, reached-more, reached-refused, reached-all}
 use Rattle.file_read.proofs.check_file.Statement.{statement}

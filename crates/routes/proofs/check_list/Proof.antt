@@ -3,7 +3,7 @@ use Prim.Native.Nat.{ℕ, _-_, _≤_}
 use native.Mathlib.Nat.{sub-zero}
 use native.Mathlib.Omega.{arith}
 use borrow.Author.Needs.{needs}
-use Rattle.routes.specs.Refusals.{refused}
+use Rattle.refusals.specs.Refusals.{refused}
 use Rattle.routes.specs.Routes.{routeAt}
 use Rattle.routes.specs.Check.{faultAt, firstFault, listCheck}
 use Rattle.routes.proofs.First.{first-fault-more, first-fault-here, first-fault-all}

@@ -2,7 +2,7 @@ use mathlib.Core.Path.{refl, sym}
 use Prim.Native.Nat.{_≤_}
 use native.Mathlib.Omega.{arith}
 use lib.Seq.{length-take-le}
-use Rattle.routes.specs.Refusals.{mostRoutes}
+use Rattle.routes.specs.Bounds.{mostRoutes}
 use Rattle.table_rows.specs.Words.{capacity, rowAt}
 use Rattle.table_runs.proofs.OfTable.{capacity-le, saved-refused, count-le, saved-listed}
 use borrow.Author.Needs.{needs}

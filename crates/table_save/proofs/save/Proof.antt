@@ -1,7 +1,7 @@
 use mathlib.Core.Path.{ap, _∙_}
 use native.Mathlib.Omega.{arith}
 use Rattle.promise.specs.Over.{outcome}
-use Rattle.routes.specs.declared.Answer.{Answer}
+use Rattle.refusals.specs.declared.Answer.{Answer}
 use Rattle.table_rows.specs.Words.{rowCount, capacity, rowAt}
 use Rattle.table_save.proofs.SaveWalk.{save-refused, save-short, save-none, save-ready, save-done}
 use borrow.Author.Needs.{needs}

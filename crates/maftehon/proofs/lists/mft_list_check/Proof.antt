@@ -1,5 +1,5 @@
 use mathlib.Core.Path.{ap, _∙_}
-use Rattle.maftehon.specs.Reply.{placed}
+use Rattle.refusals.specs.Reply.{placed}
 use borrow.Author.Needs.{needs}
 use Rattle.maftehon.proofs.lists.mft_list_check.Statement.{statement}
 use Rattle.maftehon.proofs.lists.mft_list_check.Tie as tie

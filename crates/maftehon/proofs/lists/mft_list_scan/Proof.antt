@@ -1,5 +1,5 @@
 use mathlib.Core.Path.{ap, _∙_}
-use Rattle.maftehon.specs.Reply.{counted}
+use Rattle.refusals.specs.Reply.{counted}
 use borrow.Author.Needs.{needs}
 use Rattle.maftehon.proofs.lists.mft_list_scan.Statement.{statement}
 use Rattle.maftehon.proofs.lists.mft_list_scan.Tie as tie

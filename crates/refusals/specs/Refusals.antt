@@ -2,8 +2,8 @@
 use mathlib.Core.Bool.{Bool, cond}
 use Prim.Native.Nat.{ℕ}
 use lib.Dec.{eqb}
-use Rattle.routes.specs.declared.Answer.{Answer}
-use Rattle.routes.specs.declared.found.Found.{Found}
+use Rattle.refusals.specs.declared.Answer.{Answer}
+use Rattle.refusals.specs.declared.found.Found.{Found}
 
 -- the column "When" of the table, line by line
 abbrev pub shortFile : ℕ
@@ -44,14 +44,6 @@ wrongStride = 12
 
 abbrev pub tooManyRuns : ℕ
 tooManyRuns = 13
-
--- "At most 4,096 routes."
-abbrev pub mostRoutes : ℕ
-mostRoutes = 4096
-
--- "A route is a prefix and a port, 1..4094."
-abbrev pub lastPort : ℕ
-lastPort = 4094
 
 -- "A refusal returns its number and a place, all other results 0"
 abbrev pub refused : ℕ → ℕ → Answer

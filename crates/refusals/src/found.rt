@@ -1,6 +1,6 @@
 // What a lookup answers, in a table as in an image.
 ghost use mathlib.Core.Path.{_≡_};
-ghost use Rattle.routes.specs.Refusals.{found, lost};
+ghost use Rattle.refusals.specs.Refusals.{found, lost};
 
 // The refusal's number, 0 where it is done; the port; and the rows or nodes read.
 pub struct Found {

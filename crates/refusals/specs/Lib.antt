@@ -1,0 +1,3 @@
+-- What a call answers, and the published refusals.
+pub mod Refusals
+pub mod Reply

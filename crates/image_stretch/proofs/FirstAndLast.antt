@@ -9,8 +9,9 @@ use Rattle.routes.specs.Routes.{ValidList}
 use Rattle.routes.specs.Scan.{routeMatches, lastMatch}
 use Rattle.routes.specs.declared.Route.{Route}
 use Rattle.lists.proofs.Tests.{lt-or-le}
-use Rattle.image_stretch.specs.Stretches.{stretch, past, carried, lastFrom, standsBefore, under, slotStretchAt, slotStretch}
+use Rattle.image_stretch.specs.Stretches.{stretch, past, carried, lastFrom, standsBefore, under, slotStretchAt, slotStretch, seekFrom, sought, fromAt, toAt, fromOf, toOf}
 use Rattle.image_stretch.specs.declared.Stretch.{Stretch}
+use Rattle.image_stretch.specs.declared.search.Sought.{Sought}
 
 -- as the code goes, up to hi
 module _ (test : ℕ → Bool) where
@@ -104,15 +105,24 @@ module _ (w : ℕ) (R : ℕ → Route) where
         ∙ ap (λ (j : ℕ). lastMatch w R j a) (sym z)
 
 -- the slot's stretch, from what the three searches found
-pub slot-stretch-is : (w : ℕ) (R : ℕ → Route) (x : Stretch) (at v l lo hi best : ℕ) → lo ≡ past (standsBefore R v l) (x .hi - at) at
-    → hi ≡ past (under w R v l) (x .hi - lo) lo → best ≡ lastFrom w R v (x .best) (x .lo) (lo - x .lo)
-    → stretch lo hi l best ≡ slotStretchAt w R x at v l
+pub slot-stretch-is : (w : ℕ) (R : ℕ → Route) (x : Stretch) (at v l port hi : ℕ) (s : Sought)
+    → port ≡ lastFrom w R v (x .best) (x .lo) (at - x .lo) → s ≡ seekFrom w R v l port at (x .hi)
+    → hi ≡ past (under w R v l) (x .hi - s .route) (s .route) → stretch (s .route) hi l (s .port) ≡ slotStretchAt w R x at v l
 unfolding slotStretchAt
-slot-stretch-is w R x at v l lo hi best a b c =
-    ap₂ (λ (h k : ℕ). stretch lo h l k) b c
-    ∙ ap (λ (m : ℕ). stretch m (past (under w R v l) (x .hi - m) m) l (lastFrom w R v (x .best) (x .lo) (m - x .lo))) a
+slot-stretch-is w R x at v l port hi s a b c =
+    ap (λ (h : ℕ). stretch (s .route) h l (s .port)) c
+    ∙ ap (λ (y : Sought). stretch (y .route) (past (under w R v l) (x .hi - y .route) (y .route)) l (y .port)) b
+    ∙ ap (λ (p : ℕ). stretch (fromAt R x at v l) (toAt w R x at v l) l (lastFrom w R v p at (fromAt R x at v l - at))) a
+
+-- one pass, where it ended
+pub seek-is : (w : ℕ) (R : ℕ → Route) (v l best lo hi i port : ℕ) → i ≡ past (standsBefore R v l) (hi - lo) lo
+    → port ≡ lastFrom w R v best lo (i - lo) → sought i port ≡ seekFrom w R v l best lo hi
+seek-is w R v l best lo hi i port e f =
+    ap (λ (p : ℕ). sought i p) f ∙ ap (λ (j : ℕ). sought j (lastFrom w R v best lo (j - lo))) e
 
 -- started at the first of the node's routes
 pub slot-stretch-first : (w : ℕ) (R : ℕ → Route) (x : Stretch) (v l : ℕ) → slotStretchAt w R x (x .lo) v l ≡ slotStretch w R x v l
 unfolding slotStretchAt slotStretch
-slot-stretch-first w R x v l = refl
+slot-stretch-first w R x v l =
+    ap (λ (p : ℕ). stretch (fromOf R x v l) (toOf w R x v l) l (lastFrom w R v p (x .lo) (fromOf R x v l - x .lo)))
+    (last-from-none w R v (x .best) (x .lo) (x .lo - x .lo) (omega arith))

@@ -10,6 +10,7 @@ use Rattle.routes.specs.Scan.{routeMatches}
 use Rattle.routes.specs.declared.Route.{Route}
 use Rattle.image_rules.specs.Breadth.{Slot, leaf, nonLeaf, levels}
 use Rattle.image_stretch.specs.declared.Stretch.{Stretch}
+use Rattle.image_stretch.specs.declared.search.Sought.{Sought}
 
 abbrev pub stretch : ℕ → ℕ → ℕ → ℕ → Stretch
 stretch lo hi depth best = record { lo = lo; hi = hi; depth = depth; best = best }
@@ -52,11 +53,25 @@ fromOf R x v l = fromAt R x (x .lo) v l
 abbrev pub toOf : ℕ → (ℕ → Route) → Stretch → ℕ → ℕ → ℕ
 toOf w R x v l = toAt w R x (x .lo) v l
 
+abbrev pub sought : ℕ → ℕ → Sought
+sought route port = record { route = route; port = port }
+
+-- one pass from lo on: where the routes that stand before v/l end, and the port of the last of them that matches v, else the one given
+abbrev pub seekFrom : ℕ → (ℕ → Route) → ℕ → ℕ → ℕ → ℕ → ℕ → Sought
+seekFrom w R v l port lo hi = record {
+  route = past (standsBefore R v l) (hi - lo) lo;
+  port = lastFrom w R v port lo (past (standsBefore R v l) (hi - lo) lo - lo);
+}
+
+-- the port that the slot inherits: from the routes before the one that the search starts at, and from those that it passes
+abbrev pub inheritedAt : ℕ → (ℕ → Route) → Stretch → ℕ → ℕ → ℕ → ℕ
+inheritedAt w R x at v l = lastFrom w R v (lastFrom w R v (x .best) (x .lo) (at - x .lo)) at (fromAt R x at v l - at)
+
 -- the stretch of the slot with the bits of v/l, with the port that it inherits: the search started at route `at`, and at the first of
 -- the node's routes
 unfoldable pub slotStretchAt : ℕ → (ℕ → Route) → Stretch → ℕ → ℕ → ℕ → Stretch
 slotStretchAt w R x at v l =
-    stretch (fromAt R x at v l) (toAt w R x at v l) l (lastFrom w R v (x .best) (x .lo) (fromAt R x at v l - x .lo))
+    stretch (fromAt R x at v l) (toAt w R x at v l) l (inheritedAt w R x at v l)
 
 unfoldable pub slotStretch : ℕ → (ℕ → Route) → Stretch → ℕ → ℕ → Stretch
 slotStretch w R x v l =

@@ -4,26 +4,17 @@ ghost use mathlib.Core.Bool.{cond};
 ghost use Prim.Native.Nat.{_-_};
 ghost use Rattle.bits.specs.Prefix.{matches};
 ghost use Rattle.routes.specs.Routes.{routeAt};
-ghost use Rattle.image_stretch.specs.Stretches.{past, carried, lastFrom, standsBefore, under, slotStretchAt, goesOn, leafPort};
+ghost use Rattle.image_stretch.specs.Stretches.{past, carried, lastFrom, under, seekFrom, slotStretchAt, goesOn, leafPort};
 use crate::HALF_WORD;
 use crate::Stretch;
 use prefix::Prefix;
 use routes::Route;
 use routes::route_at;
 
-// The first route of lo..hi that does not stand before the prefix; hi if all do.
-fn first_from(list: &[u32], place: Prefix, lo: usize, hi: usize) -> usize
-    ensures { λ r. ⌜ r ≡ past (standsBefore (routeAt (now (list .entry))) (place .value) (place .len)) (hi - lo) lo ⌝ }
-{
-    let mut i = lo;
-    while i < hi {
-        if route_at(list, i).prefix().precedes(place) {
-            i += 1;
-        } else {
-            return i;
-        }
-    }
-    i
+// What a search has found: the route at which it ended, and the port of the last match that it passed.
+pub struct Sought {
+    pub route: usize,
+    pub port: u32,
 }
 
 // The first route of lo..hi whose value is no address of the prefix; hi if all are.
@@ -72,19 +63,38 @@ fn last_match(list: &[u32], address: u32, best: u32, lo: usize, hi: usize) -> u3
     port
 }
 
+// The first route of lo..hi that does not stand before the prefix, hi if all do; and the port of the last route passed that matches the
+// prefix's first address, else the port so far. One pass finds both.
+fn seek(list: &[u32], place: Prefix, lo: usize, hi: usize, best: u32) -> Sought
+    ensures { λ r. ⌜ r ≡ seekFrom 32 (routeAt (now (list .entry))) (place .value) (place .len) best lo hi ⌝ }
+{
+    let mut i = lo;
+    let mut port = best;
+    while i < hi {
+        let route = route_at(list, i);
+        if route.prefix().precedes(place) {
+            port = port_if(route, place.value, port);
+            i += 1;
+        } else {
+            return Sought { route: i, port };
+        }
+    }
+    Sought { route: i, port }
+}
+
 // The stretch of the slot with the bits of a prefix, within its node's stretch x, and the port that it inherits. The search starts at
 // route `at`: at x.lo, or where an earlier slot's stretch ended.
 pub fn slot_stretch(list: &[u32], x: Stretch, at: usize, place: Prefix) -> Stretch
     ensures { λ r. ⌜ r ≡ slotStretchAt 32 (routeAt (now (list .entry))) x at (place .value) (place .len) ⌝ }
 {
-    let lo = first_from(list, place, at, x.hi);
-    let hi = first_apart(list, place, lo, x.hi);
-    let best = last_match(list, place.value, x.best, x.lo, lo);
+    let inherited = last_match(list, place.value, x.best, x.lo, at);
+    let found = seek(list, place, at, x.hi, inherited);
+    let hi = first_apart(list, place, found.route, x.hi);
     Stretch {
-        lo,
+        lo: found.route,
         hi,
         depth: place.len,
-        best,
+        best: found.port,
     }
 }
 

@@ -6,8 +6,8 @@ use native.Mathlib.Omega.{arith}
 use lib.Dec.{eqb}
 use borrow.Author.Tests.{eq-eqb, ne-eqb}
 use Rattle.routes.specs.declared.Route.{Route}
-use Rattle.table_rules.specs.Rows.{Layout, routeOf, withRoute}
-use Rattle.table_rules.specs.Announce.{isSame, outranksRow, sink}
+use Rattle.table_rules.specs.Rows.{Layout, withRoute}
+use Rattle.table_rules.specs.Announce.{isSame, sink}
 use Rattle.table_rules.specs.declared.Row.{Row}
 use Rattle.table_change.specs.Plan.{planOf, leafInto}
 use Rattle.table_change.specs.declared.sinking.Plan.{Plan}
@@ -35,12 +35,6 @@ module _ {S : Type 0} (L : Layout S) (w : ℕ) (ws : S) (n r : ℕ) (q : Route) 
   unfolding sink
   sink-plan zero pos e = absurd (omega arith)
   sink-plan (suc k) pos e = rw (pred-of k, e)
-
--- where the route does not take the place, the row stays as it is
-pub plan-kept : (w : ℕ) (x : Row) (q : Route) (k : ℕ) (p : Plan) → p ≡ planOf w x q k → p .over ≡ false → p .upper ≡ x
-plan-kept w x q k p is h =
-    let e : outranksRow (w - suc k) q x ≡ false = sym (ap (λ (y : Plan). y .over) is) ∙ h in
-    ap (λ (y : Plan). y .upper) is ∙ ap (λ (b : Bool). withRoute x (cond b q (routeOf x))) e
 
 -- the route q is at row `row`, with `left` bits below it; what is left to do is all that there was
 pub record Sinking {S : Type 0} (L : Layout S) (w : ℕ) (ws₀ ws : S) (n : ℕ) (route q : Route) (left row : ℕ) : Type 0 where

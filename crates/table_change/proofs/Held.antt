@@ -82,11 +82,11 @@ module _ (w : ℕ) (M : Mem) (q : Route) (left r : ℕ) (end : Bool) (inv : held
 pub plan-is : (w : ℕ) (x : Row) (q : Route) (k d : ℕ) (over : Bool) (lower : Route) (upper : Row) (right : Bool) (c : ℕ)
     → d ≡ w - suc k → over ≡ outranksRow d q x → lower ≡ cond over (routeOf x) q → upper ≡ withRoute x (cond over q (routeOf x))
     → right ≡ bitBefore (lower .value) k → c ≡ child x right
-    → _≡_ {A = Plan} (record { over = over; upper = upper; lower = lower; right = right; child = c }) (planOf w x q k)
+    → _≡_ {A = Plan} (record { upper = upper; lower = lower; right = right; child = c }) (planOf w x q k)
 plan-is w x q k d over lower upper right c ed eo el eu er ec =
     let o : over ≡ outranksRow (w - suc k) q x = eo ∙ ap (λ (j : ℕ). outranksRow j q x) ed in
     let l : lower ≡ cond (outranksRow (w - suc k) q x) (routeOf x) q = el ∙ ap (λ (b : Bool). cond b (routeOf x) q) o in
     let u : upper ≡ withRoute x (cond (outranksRow (w - suc k) q x) q (routeOf x)) = eu ∙ ap (λ (b : Bool). withRoute x (cond b q (routeOf x))) o in
     let r : right ≡ bitBefore (cond (outranksRow (w - suc k) q x) (routeOf x) q .value) k = er ∙ ap (λ (z : Route). bitBefore (z .value) k) l in
     let e : c ≡ child x (bitBefore (cond (outranksRow (w - suc k) q x) (routeOf x) q .value) k) = ec ∙ ap (child x) r in
-    λ i. record { over = o i; upper = u i; lower = l i; right = r i; child = e i }
+    λ i. record { upper = u i; lower = l i; right = r i; child = e i }

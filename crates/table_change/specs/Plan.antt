@@ -6,16 +6,16 @@ use Rattle.bits.specs.Bits.{bitBefore}
 use Rattle.table_rules.specs.Announce.{outranksRow}
 use Rattle.table_rules.specs.declared.Row.{Row}
 use Rattle.table_change.specs.declared.sinking.Plan.{Plan}
-use mathlib.Core.Bool.{Bool, cond}
+use mathlib.Core.Bool.{cond}
 
 -- with k bits after the next one
-abbrev pub planBy : Bool → Row → ℕ → Route → Route → Plan
-planBy over x k upper lower =
-    record { over = over; upper = withRoute x upper; lower = lower; right = bitBefore (lower .value) k; child = child x (bitBefore (lower .value) k) }
+abbrev pub planBy : Row → ℕ → Route → Route → Plan
+planBy x k upper lower =
+    record { upper = withRoute x upper; lower = lower; right = bitBefore (lower .value) k; child = child x (bitBefore (lower .value) k) }
 
 abbrev pub planOf : ℕ → Row → Route → ℕ → Plan
 planOf w x q k =
-    planBy (outranksRow (w - suc k) q x) x k (cond (outranksRow (w - suc k) q x) q (routeOf x)) (cond (outranksRow (w - suc k) q x) (routeOf x) q)
+    planBy x k (cond (outranksRow (w - suc k) q x) q (routeOf x)) (cond (outranksRow (w - suc k) q x) (routeOf x) q)
 
 -- a new leaf in row n
 abbrev pub leafInto : {S : Type 0} → Layout S → S → ℕ → ℕ → Plan → S

@@ -1,8 +1,7 @@
 // Announce, inside a table in good order: a route sinks to its place.
 ghost use mathlib.Core.Path.{_≡_};
-ghost use mathlib.Core.Bool.{false};
 ghost use Prim.Native.Nat.{_<_};
-ghost use Rattle.table_rows.specs.Words.{rowAt, storeRow, fiveWords};
+ghost use Rattle.table_rows.specs.Words.{fiveWords};
 ghost use Rattle.table_rules.specs.Announce.{sink, heldAt, isHeld, announced};
 ghost use Rattle.table_change.specs.Plan.{planOf, leafInto};
 use crate::place::child_of;
@@ -19,10 +18,8 @@ use table_rows::row_at;
 use table_rows::store_row;
 use table_rules::Row;
 
-// What a route that sinks past a row does there: whether it takes the place, the row with its holder, and what goes on down, with its
-// side and child.
+// What a route that sinks past a row does there: the row with its new holder, and what goes on down, with its side and child.
 pub struct Plan {
-    pub over: bool,
     pub upper: Row,
     pub lower: Route,
     pub right: bool,
@@ -39,7 +36,6 @@ fn plan_for(x: Row, q: Route, left: u32) -> Plan
     let upper = with_route(x, route_if(over, q, route_of(x)));
     let right = bit_before(lower.value, left);
     Plan {
-        over,
         upper,
         lower,
         right,
@@ -55,16 +51,6 @@ fn add_leaf(rows: &mut [u32], n: u32, row: u32, plan: Plan)
     let lower = plan.lower;
     store_row(rows, row, with_child(upper, plan.right, n));
     store_row(rows, n, leaf_row(lower));
-}
-
-// Stores a row with its holder. A row that keeps its own is there already, and is not stored again.
-fn settle(rows: &mut [u32], row: u32, over: bool, x: Row)
-    requires { ⌜ (over ≡ false → x ≡ rowAt (now rows) row) ⌝ }
-    ensures { λ _. ⌜ now (rows .exit) ≡ storeRow (now (rows .entry)) row x ⌝ }
-{
-    if over {
-        store_row(rows, row, x);
-    }
 }
 
 // Whether the rows hold the route's prefix. A place that it would take itself has it nowhere below.
@@ -109,7 +95,7 @@ pub(crate) fn sink_from_root(rows: &mut [u32], n: u32, route: Route)
             add_leaf(rows, n, row, plan);
             return;
         }
-        settle(rows, row, plan.over, plan.upper);
+        store_row(rows, row, plan.upper);
         q = plan.lower;
         row = plan.child;
     }

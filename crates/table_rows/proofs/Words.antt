@@ -9,7 +9,7 @@ use lib.Dec.{ltb}
 use mathlib.Core.Bool.{Bool, true, false, cond}
 use borrow.Author.Tests.{lt-ltb}
 use lib.ListN.{length, getD}
-use lib.Seq.{sets, length-sets, set-getD}
+use lib.Seq.{sets, length-sets}
 use Rattle.table_rules.specs.Rows.{Stores}
 use Rattle.table_rules.specs.Withdraw.{zeroRow}
 use Rattle.routes.specs.Bounds.{mostRoutes}
@@ -81,19 +81,6 @@ module _ (ws : List ℕ) (r : ℕ) (x : Row) where
 
       words : wholeRow (storeRow ws r x) i ≡ wholeRow ws i
       words = unfold storeRow in go (ltb r (rowCount ws))
-
--- a row stored as it is changes nothing
-whole-kept : (ws : List ℕ) (r : ℕ) → storeWhole ws r (wholeRow ws r) ≡ ws
-whole-kept ws r =
-    rw (set-getD ws (r * 5) 0, set-getD ws (r * 5 + 1) 0, set-getD ws (r * 5 + 2) 0, set-getD ws (r * 5 + 3) 0, set-getD ws (r * 5 + 4) 0)
-
-pub row-kept : (ws : List ℕ) (r : ℕ) → storeRow ws r (rowAt ws r) ≡ ws
-unfolding storeRow rowAt
-row-kept ws r = go (ltb r (rowCount ws))
-  where
-    go : (a : Bool) → cond a (storeWhole ws r (cond a (wholeRow ws r) zeroRow)) ws ≡ ws
-    go true = whole-kept ws r
-    go false = refl
 
 pub words-stores : (w : ℕ) → Stores w fiveWords
 words-stores w = record {

@@ -3,13 +3,13 @@ use native.Mathlib.Omega.{arith}
 use mathlib.Core.Path.{_≡_, refl, sym, ap, _∙_}
 use mathlib.Core.Bool.{Bool, true}
 use mathlib.Core.List.{List}
-use Prim.Native.Nat.{ℕ, _-_}
+use Prim.Native.Nat.{ℕ}
 use lib.ListN.{length}
 use Rattle.table_rules.specs.Rows.{withRoute}
 use Rattle.table_rows.specs.Words.{fiveWords}
 use Rattle.table_rules.specs.Announce.{isSame, sink}
 use Rattle.table_rules.specs.declared.Row.{Row}
-use Rattle.table_change.proofs.Announce.{Sinking, plan-kept, sinking-same, sinking-last, sinking-leaf, sinking-more}
+use Rattle.table_change.proofs.Announce.{Sinking, sinking-same, sinking-last, sinking-leaf, sinking-more}
 use Rattle.table_change.proofs.sinking.sink_from_root.Statement.{statement}
 use Rattle.table_change.proofs.sinking.sink_from_root.Tie as tie
 
@@ -80,12 +80,8 @@ returns-2 c =
     let l = x .before .before .before .loop in
     sinking-leaf fiveWords 32 _ (l .rows) _ _ (l .q) (l .left) (l .row) (l .inv .0) (x .row-at .result) (x .row-at .ensures) (s .is-same .result) (s .is-same .ensures) (search needs) (p .before .if1 .left) (p .plan-for .result) (p .plan-for .ensures) (d .before .before .if2 .taken) _ (d .add-leaf .ensures)
 
-settle-requires : tie.Need-settle-requires Inv-loop μ-loop
-settle-requires c κs h =
-    let p = c .before .before .before in
-    let x = p .before .before .before in
-    let l = x .before .before .before .loop in
-    plan-kept 32 (x .row-at .result) (l .q) (l .left - 1) (p .plan-for .result) (p .plan-for .ensures) h ∙ x .row-at .ensures
+store-row-requires-2 : tie.Need-store-row-requires-2 Inv-loop μ-loop
+store-row-requires-2 c κs = search needs
 
 loop-less : tie.Need-loop-less Inv-loop μ-loop
 loop-less c = search needs
@@ -97,7 +93,7 @@ loop-again c =
     let s = p .before .before in
     let x = s .before in
     let l = x .before .before .before .loop in
-    (sinking-more fiveWords 32 _ (l .rows) _ _ (l .q) (l .left) (l .row) (l .inv .0) (x .row-at .result) (x .row-at .ensures) (s .is-same .result) (s .is-same .ensures) (search needs) (p .before .if1 .left) (p .plan-for .result) (p .plan-for .ensures) (d .before .before .if2 .left) _ (d .settle .ensures), d .settle .kept .0 ∙ l .inv .1)
+    (sinking-more fiveWords 32 _ (l .rows) _ _ (l .q) (l .left) (l .row) (l .inv .0) (x .row-at .result) (x .row-at .ensures) (s .is-same .result) (s .is-same .ensures) (search needs) (p .before .if1 .left) (p .plan-for .result) (p .plan-for .ensures) (d .before .before .if2 .left) _ (d .store-row2 .ensures), d .store-row2 .kept .0 ∙ l .inv .1)
 
 row-at-requires-2 : tie.Need-row-at-requires-2 Inv-loop μ-loop
 row-at-requires-2 c κs = search needs
@@ -108,19 +104,19 @@ is-same-requires-2 c κs = search needs
 with-route-requires-2 : tie.Need-with-route-requires-2 Inv-loop μ-loop
 with-route-requires-2 c κs = search needs
 
-store-row-requires-2 : tie.Need-store-row-requires-2 Inv-loop μ-loop
-store-row-requires-2 c κs = search needs
+store-row-requires-3 : tie.Need-store-row-requires-3 Inv-loop μ-loop
+store-row-requires-3 c κs = search needs
 
 same-length-3 : tie.Need-same-length-3 Inv-loop μ-loop
 same-length-3 c =
     let l = c .before .before .before .before .before .before .before .before .before .before .loop in
-    c .before .before .store-row2 .kept .0 ∙ l .inv .1
+    c .before .before .store-row3 .kept .0 ∙ l .inv .1
 
 returns-3 : tie.Need-returns-3 Inv-loop μ-loop
 returns-3 c =
     let d = c .before .before in
     let s = d .before .before .before .before in
-    sunk-here (s .before .before .before .before) (s .before .row-at2 .ensures) (s .is-same2 .ensures) (d .before .before .before .if3 .taken) (d .before .with-route2 .ensures) (d .store-row2 .ensures)
+    sunk-here (s .before .before .before .before) (s .before .row-at2 .ensures) (s .is-same2 .ensures) (d .before .before .before .if3 .taken) (d .before .with-route2 .ensures) (d .store-row3 .ensures)
 
 same-length-4 : tie.Need-same-length-4 Inv-loop μ-loop
 same-length-4 c = c .before .before .before .before .before .loop .inv .1
@@ -150,13 +146,13 @@ sink-from-root-spec =
     add-leaf-requires
     same-length-2
     returns-2
-    settle-requires
+    store-row-requires-2
     loop-less
     loop-again
     row-at-requires-2
     is-same-requires-2
     with-route-requires-2
-    store-row-requires-2
+    store-row-requires-3
     same-length-3
     returns-3
     same-length-4

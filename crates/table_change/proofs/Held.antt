@@ -10,7 +10,7 @@ use Rattle.table_rules.specs.Rows.{Mem, child, routeOf, withRoute}
 use Rattle.bits.specs.Bits.{bitBefore}
 use Rattle.table_rules.specs.Announce.{isSame, outranksRow, heldAt}
 use Rattle.table_rules.specs.declared.Row.{Row}
-use Rattle.table_change.specs.Plan.{planOf}
+use Rattle.table_change.specs.Plan.{planBy, planOf}
 use Rattle.table_change.specs.declared.sinking.Plan.{Plan}
 
 pub pred-of : (k : ℕ) → suc k - 1 ≡ k
@@ -78,15 +78,22 @@ module _ (w : ℕ) (M : Mem) (q : Route) (left r : ℕ) (end : Bool) (inv : held
           ap (λ (j : ℕ). heldAt w M (left - 1) j q) c-is
           ∙ sym (next-held w M q r left pos (a-is false other) (o-is false under) (λ e. ne (c-is ∙ e))) ∙ inv
 
--- the plan from the code's values
-pub plan-is : (w : ℕ) (x : Row) (q : Route) (k d : ℕ) (over : Bool) (lower : Route) (upper : Row) (right : Bool) (c : ℕ)
-    → d ≡ w - suc k → over ≡ outranksRow d q x → lower ≡ cond over (routeOf x) q → upper ≡ withRoute x (cond over q (routeOf x))
-    → right ≡ bitBefore (lower .value) k → c ≡ child x right
-    → _≡_ {A = Plan} (record { upper = upper; lower = lower; right = right; child = c }) (planOf w x q k)
-plan-is w x q k d over lower upper right c ed eo el eu er ec =
-    let o : over ≡ outranksRow (w - suc k) q x = eo ∙ ap (λ (j : ℕ). outranksRow j q x) ed in
-    let l : lower ≡ cond (outranksRow (w - suc k) q x) (routeOf x) q = el ∙ ap (λ (b : Bool). cond b (routeOf x) q) o in
-    let u : upper ≡ withRoute x (cond (outranksRow (w - suc k) q x) q (routeOf x)) = eu ∙ ap (λ (b : Bool). withRoute x (cond b q (routeOf x))) o in
-    let r : right ≡ bitBefore (cond (outranksRow (w - suc k) q x) (routeOf x) q .value) k = er ∙ ap (λ (z : Route). bitBefore (z .value) k) l in
-    let e : c ≡ child x (bitBefore (cond (outranksRow (w - suc k) q x) (routeOf x) q .value) k) = ec ∙ ap (child x) r in
-    λ i. record { upper = u i; lower = l i; right = r i; child = e i }
+-- a plan from the code's values
+pub plan-with-is : (x : Row) (k : ℕ) (holder lower : Route) (upper : Row) (right : Bool) (c : ℕ)
+    → upper ≡ withRoute x holder → right ≡ bitBefore (lower .value) k → c ≡ child x right
+    → _≡_ {A = Plan} (record { upper = upper; lower = lower; right = right; child = c }) (planBy x k holder lower)
+plan-with-is x k holder lower upper right c eu er ec =
+    let e : c ≡ child x (bitBefore (lower .value) k) = ec ∙ ap (child x) er in
+    λ i. record { upper = eu i; lower = lower; right = er i; child = e i }
+
+-- the route takes the place, or the row keeps its holder
+module _ (w : ℕ) (x : Row) (q : Route) (k d : ℕ) (over : Bool) (deep : d ≡ w - suc k) (is : over ≡ outranksRow d q x) (own : Route)
+    (own-is : own ≡ routeOf x) where
+  outranks-is : (b : Bool) → over ≡ b → outranksRow (w - suc k) q x ≡ b
+  outranks-is b e = ap (λ (j : ℕ). outranksRow j q x) (sym deep) ∙ sym is ∙ e
+
+  pub plan-over : over ≡ true → planBy x k q own ≡ planOf w x q k
+  plan-over e = ap (planBy x k q) own-is ∙ sym (rw (outranks-is true e))
+
+  pub plan-under : over ≡ false → planBy x k own q ≡ planOf w x q k
+  plan-under e = ap (λ (r : Route). planBy x k r q) own-is ∙ sym (rw (outranks-is false e))

@@ -1,6 +1,5 @@
 // Rows and routes by value: what an update reads off a row, and the row that it leaves.
 ghost use mathlib.Core.Path.{_≡_};
-ghost use mathlib.Core.Bool.{cond};
 ghost use Prim.Native.Nat.{_<_};
 ghost use Rattle.table_rules.specs.Rows.{child, routeOf, leafRow, withRoute, withChild};
 ghost use Rattle.bits.specs.Bits.{bitBefore};
@@ -76,10 +75,4 @@ pub(crate) fn outranks_row(depth: u32, q: Route, x: Row) -> bool
     ensures { λ r. ⌜ r ≡ outranksRow depth q x ⌝ }
 {
     (depth < x.len) & (!(depth < q.len) | q.prefix().is_ahead(prefix_of(x)))
-}
-
-pub(crate) fn route_if(first: bool, a: Route, b: Route) -> Route
-    ensures { λ r. ⌜ r ≡ cond first a b ⌝ }
-{
-    if first { a } else { b }
 }

@@ -3,12 +3,11 @@ ghost use mathlib.Core.Path.{_≡_};
 ghost use Prim.Native.Nat.{_<_};
 ghost use Rattle.table_rows.specs.Words.{fiveWords};
 ghost use Rattle.table_rules.specs.Announce.{sink, heldAt, isHeld, announced};
-ghost use Rattle.table_change.specs.Plan.{planOf, leafInto};
+ghost use Rattle.table_change.specs.Plan.{planBy, planOf, leafInto};
 use crate::place::child_of;
 use crate::place::is_same;
 use crate::place::leaf_row;
 use crate::place::outranks_row;
-use crate::place::route_if;
 use crate::place::with_child;
 use crate::place::with_route;
 use prefix::bit_before;
@@ -26,21 +25,30 @@ pub struct Plan {
     pub child: u32,
 }
 
-// With `left` bits of the address after the next one, at depth 31 - left.
-fn plan_for(x: Row, q: Route, left: u32) -> Plan
+// One route holds the row's place and the other goes on down, with `left` bits of the address after the next one.
+fn plan_with(x: Row, holder: Route, lower: Route, left: u32) -> Plan
     requires { ⌜ left < 32 ⌝ }
-    ensures { λ r. ⌜ r ≡ planOf 32 x q left ⌝ }
+    ensures { λ r. ⌜ r ≡ planBy x left holder lower ⌝ }
 {
-    let over = outranks_row(31 - left, q, x);
-    let lower = route_if(over, route_of(x), q);
-    let upper = with_route(x, route_if(over, q, route_of(x)));
     let right = bit_before(lower.value, left);
     Plan {
-        upper,
+        upper: with_route(x, holder),
         lower,
         right,
         child: child_of(x, right),
     }
+}
+
+// At depth 31 - left. Two ways, and no choice of words: mostly the row keeps its holder, and a processor that guesses so need not wait for
+// the comparison.
+fn plan_for(x: Row, q: Route, left: u32) -> Plan
+    requires { ⌜ left < 32 ⌝ }
+    ensures { λ r. ⌜ r ≡ planOf 32 x q left ⌝ }
+{
+    if outranks_row(31 - left, q, x) {
+        return plan_with(x, q, route_of(x), left);
+    }
+    plan_with(x, route_of(x), q, left)
 }
 
 // The new place gets row n, and its parent names it.

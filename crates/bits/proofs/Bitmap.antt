@@ -1,12 +1,21 @@
 -- Laws of the ones before a slot, over the number n of slots. Assumes nothing.
-use mathlib.Core.Path.{_≡_, sym, ap, _∙_}
-use Prim.Native.Nat.{ℕ, _+_, _-_, _*_, _/_, _%_, _^_, _≤_, _<_}
+use mathlib.Core.Path.{_≡_, refl, sym, ap, _∙_}
+use mathlib.Core.Logic.{⊎-elim}
+use mathlib.Core.Bool.{true, false}
+use Prim.Native.Nat.{ℕ, zero, suc, _+_, _-_, _*_, _/_, _%_, _^_, _≤_, _<_}
 use native.Mathlib.Nat.{div-one, mul-assoc, mul-add-div-right}
+use native.Mathlib.Numerals.{add-one}
 use native.Mathlib.Omega.{arith}
 use lib.Arith.{digits-div}
 use lib.Count.{ones, ones-le, ones-step, ones-cat}
+use lib.Dec.{eqb}
 use lib.Pow.{shr-lt, shr-shr, pow-pos, pow-add}
-use Rattle.bits.specs.Bitmap.{before, slotBit, onesBefore, zerosBefore}
+use Rattle.bits.specs.Bitmap.{before, slotBit, onesBefore, zerosBefore, slotsWith}
+use Rattle.bits.specs.Bits.{bit}
+use Rattle.bits.specs.Theorems.{OnesBeforeCounts, ZerosBeforeCounts}
+use Rattle.bits.proofs.Bits.{bit-odd}
+use borrow.Author.Tests.{eqb-true, eqb-false, eq-eqb, ne-eqb}
+use Rattle.lists.proofs.Tests.{way}
 
 -- no more ones before slot j than slots
 pub ones-before-le : (n bitmap j : ℕ) → j ≤ n → bitmap < 2 ^ n → onesBefore n bitmap j ≤ j
@@ -45,3 +54,36 @@ ones-above c v m j h l =
     ap (λ (x : ℕ). ones ((x + v) / 2 ^ (m - j))) q
     ∙ ap ones (mul-add-div-right (pow-pos (m - j)) (c * 2 ^ j) v)
     ∙ ones-cat j c (v / 2 ^ (m - j)) (shr-lt j (m - j) (rw e l))
+
+-- no slot is before slot 0
+ones-before-none : (n bitmap : ℕ) → bitmap < 2 ^ n → onesBefore n bitmap 0 ≡ 0
+ones-before-none n bitmap p = omega (arith, ones-before-le n bitmap 0 (omega arith) p)
+
+pub ones-before-counts : OnesBeforeCounts
+ones-before-counts n bitmap zero h p = ones-before-none n bitmap p
+ones-before-counts n bitmap (suc j) h p =
+    ap (onesBefore n bitmap) (sym (add-one j)) ∙ ones-before-suc n bitmap j (omega arith)
+    ∙ omega (arith, ones-before-counts n bitmap j (omega arith) p, bit-odd (bitmap / 2 ^ (n - 1 - j)))
+
+-- a bit is a one or a zero
+one-or-zero : (x : ℕ) → bit (eqb (x % 2) 1) + bit (eqb (x % 2) 0) ≡ 1
+one-or-zero x =
+    ⊎-elim
+    (λ (t : eqb (x % 2) 0 ≡ true). let z = eqb-true (x % 2) 0 t in rw (t, ne-eqb (x % 2) 1 (λ e. omega arith)))
+    (λ (t : eqb (x % 2) 0 ≡ false). let z = eqb-false (x % 2) 0 t in rw (t, eq-eqb (x % 2) 1 (omega arith)))
+    (way (eqb (x % 2) 0))
+
+-- each slot before j is counted once
+slots-with-both : (n bitmap j : ℕ) → slotsWith n bitmap 1 j + slotsWith n bitmap 0 j ≡ j
+slots-with-both n bitmap zero = omega arith
+slots-with-both n bitmap (suc j) = omega (arith, slots-with-both n bitmap j, one-or-zero (bitmap / 2 ^ (n - 1 - j)))
+
+pub zeros-before-counts : ZerosBeforeCounts
+zeros-before-counts n bitmap j h p = omega (arith, ones-before-counts n bitmap j h p, slots-with-both n bitmap j)
+
+-- where no slot before j has the bit, none is counted
+pub slots-with-none : (n bitmap b j : ℕ) → ((i : ℕ) → i < j → slotBit n bitmap i ≡ b → ⊥) → slotsWith n bitmap b j ≡ 0
+slots-with-none n bitmap b zero h = refl
+slots-with-none n bitmap b (suc j) h =
+    let e : bit (eqb (slotBit n bitmap j) b) ≡ 0 = ap bit (ne-eqb (slotBit n bitmap j) b (h j (omega arith))) in
+    omega (arith, e, slots-with-none n bitmap b j (λ i l. h i (omega arith)))

@@ -8,11 +8,11 @@ use native.Mathlib.Omega.{arith}
 use native.Mathlib.Nat.{div-div-eq-div-mul, pow-suc, pow-succ', sub-zero, suc-sub-suc, zero-add, suc-add, add-mul, mul-assoc, div-eq-of-lt, mod-eq-of-lt, div-one}
 use lib.Dec.{eqb}
 use lib.ListN.{length, take, length-append}
-use lib.Pow.{shr-shr, pow-add, field, mod-mod-pow}
+use lib.Pow.{shr-shr, pow-pos, pow-add, mod-pow-add, field, mod-mod-pow}
 use borrow.Author.Tests.{eq-eqb, ne-eqb, eqb-true, eqb-false}
-use Rattle.bits.specs.Bits.{Bits, bit, value, bits, prefixBits, same, begins}
+use Rattle.bits.specs.Bits.{Bits, bit, value, bits, prefixBits, same, begins, bitBefore}
 use Rattle.bits.specs.Prefix.{span, head, matches, Valid}
-use Rattle.bits.specs.Theorems.{MatchesBegins}
+use Rattle.bits.specs.Theorems.{ClearMeans, MatchesBegins}
 use Rattle.lists.proofs.Tests.{way, both}
 use Rattle.bits.proofs.Prefix.{first-valid}
 
@@ -264,3 +264,39 @@ valid-prefix-unique w v l v′ l′ ok ok′ e = (value-is, u .0)
     value-is =
         sym (first-valid w v l ok) ∙ ap (λ (x : ℕ). x * span w l) (u .1)
         ∙ ap (λ (m : ℕ). head w m v′ * span w m) (u .0) ∙ first-valid w v′ l′ ok′
+
+-- bits that are zero
+
+-- the last m + 1 bits: one bit, and those after it
+low-suc : (m x : ℕ) → x % 2 ^ suc m ≡ x / 2 ^ m % 2 * 2 ^ m + x % 2 ^ m
+low-suc m x = let e : suc m ≡ 1 + m = omega arith in ap (λ (k : ℕ). x % 2 ^ k) e ∙ mod-pow-add x 1 m
+
+-- a bit above others writes no 0 unless it is 0
+high-zero : (x p r : ℕ) → 0 < p → x % 2 * p + r ≡ 0 → eqb (x % 2) 1 ≡ false
+high-zero x p r h e =
+    ne-eqb (x % 2) 1 (λ one. let z : x % 2 * p ≡ 1 * p = ap (λ (y : ℕ). y * p) one in omega (arith, z))
+
+low-zero : (m x : ℕ) → x % 2 ^ m ≡ 0 → (k : ℕ) → k < m → bitBefore x k ≡ false
+low-zero zero x e k h = absurd (omega arith)
+low-zero (suc m) x e k h =
+    ⊎-elim
+    (λ (t : eqb k m ≡ true). ap (bitBefore x) (eqb-true k m t) ∙ high-zero (x / 2 ^ m) (2 ^ m) (x % 2 ^ m) (pow-pos m) (sym (low-suc m x) ∙ e))
+    (λ (t : eqb k m ≡ false).
+    let other : (k ≡ m → ⊥) = eqb-false k m t in low-zero m x (omega (arith, low-suc m x, e)) k (omega arith))
+    (way (eqb k m))
+
+zero-low : (m x : ℕ) → ((k : ℕ) → k < m → bitBefore x k ≡ false) → x % 2 ^ m ≡ 0
+zero-low zero x h = omega arith
+zero-low (suc m) x h =
+    let not-one : (x / 2 ^ m % 2 ≡ 1 → ⊥) = eqb-false (x / 2 ^ m % 2) 1 (h m (omega arith)) in
+    let b : x / 2 ^ m % 2 ≡ 0 = omega arith in
+    let z : x / 2 ^ m % 2 * 2 ^ m ≡ 0 * 2 ^ m = ap (λ (y : ℕ). y * 2 ^ m) b in
+    omega (arith, low-suc m x, z, zero-low m x (λ k l. h k (omega arith)))
+
+pub clear-means : ClearMeans
+clear-means w v l = (
+  λ t i from below. low-zero (w - l) v (eqb-true (v % span w l) 0 t) (w - 1 - i) (omega arith),
+  λ zeros. eq-eqb (v % span w l) 0 (zero-low (w - l) v (λ k h.
+      let e : w - 1 - (w - 1 - k) ≡ k = omega arith in
+      subst (λ (j : ℕ). bitBefore v j ≡ false) e (zeros (w - 1 - k) (omega arith) (omega arith)))),
+)

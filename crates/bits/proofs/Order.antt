@@ -9,7 +9,7 @@ use lib.Dec.{eqb, ltb}
 use lib.Pow.{pow-add}
 use borrow.Author.Tests.{eq-eqb, ne-eqb, eqb-true, lt-ltb, le-ltb, ltb-true, ltb-false}
 use Rattle.bits.specs.Prefix.{span, head, Valid, matches, first, last, precedes}
-use Rattle.bits.specs.Theorems.{Ordered}
+use Rattle.bits.specs.Theorems.{PrecedesMeans, Ordered}
 use Rattle.lists.proofs.Tests.{way, both, either, test-no}
 use Rattle.bits.proofs.Prefix.{head-rest, span-pos, matches→within, within→matches}
 
@@ -27,6 +27,9 @@ precedes-is v l v′ l′ t =
     (λ (h : ltb v v′ ≡ true). inl (ltb-true v v′ h))
     (λ (h : (eqb v v′ && ltb l l′) ≡ true). let b = both (eqb v v′) (ltb l l′) h in inr (eqb-true v v′ (b .0), ltb-true l l′ (b .1)))
     (either (ltb v v′) (eqb v v′ && ltb l l′) t)
+
+pub precedes-means : PrecedesMeans
+precedes-means v l v′ l′ = (precedes-is v l v′ l′, precedes-yes v l v′ l′)
 
 pub precedes-trans : {v l v′ l′ v″ l″ : ℕ} → Precedes v l v′ l′ → Precedes v′ l′ v″ l″ → Precedes v l v″ l″
 precedes-trans (inl x) (inl y) = inl (omega arith)

@@ -1,7 +1,7 @@
 -- Defines bit strings and the bits of a number: RULES, "Addresses and prefixes". Assumes nothing.
 use mathlib.Core.Bool.{Bool, true, false, Bool·beq, _&&_}
 use mathlib.Core.List.{List, [], _∷_}
-use Prim.Native.Nat.{ℕ, zero, suc, _+_, _*_, _/_, _%_, _^_}
+use Prim.Native.Nat.{ℕ, zero, suc, _+_, _-_, _*_, _/_, _%_, _^_}
 use lib.Dec.{eqb}
 use lib.ListN.{length, take}
 
@@ -42,3 +42,7 @@ begins (b ∷ s) (c ∷ a) = Bool·beq b c && begins s a
 -- the bit of a number that has k bits after it
 abbrev pub bitBefore : ℕ → ℕ → Bool
 bitBefore x k = eqb (x / 2 ^ k % 2) 1
+
+-- "Bits are numbered from 0, the most significant": bit i of an address of w bits
+abbrev pub bitNumber : ℕ → ℕ → ℕ → Bool
+bitNumber w x i = bitBefore x (w - 1 - i)

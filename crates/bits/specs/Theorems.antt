@@ -1,10 +1,15 @@
--- States what this layer is there for: RULES, "Addresses and prefixes". Proofs are in proofs/. Assumes nothing.
+-- States what this layer is there for: RULES, "Addresses and prefixes", "Lookup in an image". Proofs are in proofs/. Assumes nothing.
 use mathlib.Core.Path.{_≡_}
 use mathlib.Core.Bool.{Bool, true, false, _||_}
-use mathlib.Core.Logic.{_⊎_}
+use mathlib.Core.Logic.{_⊎_, _↔_}
 use Prim.Native.Nat.{ℕ, _+_, _^_, _<_, _≤_}
-use Rattle.bits.specs.Bits.{Bits, bits, prefixBits, begins}
-use Rattle.bits.specs.Prefix.{Valid, matches, first, last, within, middle, precedes}
+use Rattle.bits.specs.Bits.{Bits, bits, prefixBits, begins, bitNumber}
+use Rattle.bits.specs.Prefix.{Valid, clear, matches, first, last, within, middle, precedes}
+use Rattle.bits.specs.Bitmap.{onesBefore, zerosBefore, slotsWith}
+
+-- "Every bit of the value whose number is the length or more is 0."
+abbrev pub ClearMeans : Type 0
+ClearMeans = (w v l : ℕ) → (clear w v l ≡ true) ↔ ((i : ℕ) → l ≤ i → i < w → bitNumber w v i ≡ false)
 
 -- a prefix matches exactly the addresses from its first to its last
 abbrev pub MatchesWithin : Type 0
@@ -40,6 +45,10 @@ pub record Halved (w v l : ℕ) : Type 0 where
 abbrev pub Halves : Type 0
 Halves = (w v l : ℕ) → l < w → v < 2 ^ w → Halved w v l
 
+-- "one prefix is above another if its value is larger, or its value is the same and its length is larger"
+abbrev pub PrecedesMeans : Type 0
+PrecedesMeans = (v l v′ l′ : ℕ) → (precedes v l v′ l′ ≡ true) ↔ ((v < v′) ⊎ ((v ≡ v′) × (l < l′)))
+
 -- the order of lists is strict and total
 pub record Ordered : Type 0 where
   pub irreflexive : (v l : ℕ) → precedes v l v l ≡ false
@@ -48,3 +57,11 @@ pub record Ordered : Type 0 where
   pub total :
       (v l v′ l′ : ℕ)
       → (precedes v l v′ l′ ≡ true) ⊎ ((precedes v′ l′ v l ≡ true) ⊎ ((v ≡ v′) × (l ≡ l′)))
+
+-- "the ones in the slots before j" are the slots before j whose bit is 1
+abbrev pub OnesBeforeCounts : Type 0
+OnesBeforeCounts = (n bitmap j : ℕ) → j ≤ n → bitmap < 2 ^ n → onesBefore n bitmap j ≡ slotsWith n bitmap 1 j
+
+-- "the zeros in the slots before j" are the slots before j whose bit is 0
+abbrev pub ZerosBeforeCounts : Type 0
+ZerosBeforeCounts = (n bitmap j : ℕ) → j ≤ n → bitmap < 2 ^ n → zerosBefore n bitmap j ≡ slotsWith n bitmap 0 j

@@ -1,81 +1,139 @@
--- THE THREE DEMANDS hold: each by the layer that it speaks of. Assumes nothing.
-use mathlib.Core.Path.{_≡_, refl, sym, _∙_}
-use mathlib.Core.Logic.{_⊎_, inl, inr}
-use mathlib.Core.Bool.{true, false, false≢true}
-use mathlib.Core.List.{List}
-use Prim.Native.Nat.{ℕ, _%_, _^_, _≤_}
+-- THE DEMANDS hold of any boundary that follows the definitions, and so of the library's own. Assumes nothing.
+use mathlib.Core.Path.{_≡_, refl, sym, ap, subst, _∙_}
+use mathlib.Core.Logic.{_⊎_, inl, inr, ⊎-elim}
+use mathlib.Core.Bool.{true, false, cond, false≢true}
+use mathlib.Core.List.{List, [], _∷_}
+use Prim.Native.Nat.{ℕ, _*_, _%_, _^_, _≤_, _<_}
 use native.Mathlib.Omega.{arith}
-use lib.Dec.{eqb, leb}
-use borrow.Author.Tests.{eqb-true, eqb-false, leb-true}
-use Rattle.promise.specs.Over.{outcome}
+use lib.Dec.{eqb}
+use lib.ListN.{length, take}
+use borrow.Author.Tests.{eqb-true, eqb-false, le-leb}
+use Rattle.promise.specs.Over.{Outcome, outcome, over}
 use Rattle.lists.proofs.Tests.{way}
-use Rattle.routes.specs.Routes.{routeAt, routeCount}
-use Rattle.refusals.specs.Refusals.{accepted}
+use Rattle.bits.specs.Bits.{bits}
+use Rattle.trie.specs.Routes.{Routes}
+use Rattle.trie.specs.Scan.{scan}
+use Rattle.trie.specs.Trie.{Trie, reads}
+use Rattle.trie.proofs.Rule.{trie-unique}
+use Rattle.routes.specs.Routes.{routeAt, routeCount, wordsOf}
+use Rattle.refusals.specs.Refusals.{accepted, found}
+use Rattle.refusals.specs.Reply.{Reply, placed, counted, looked, replied}
+use Rattle.refusals.specs.declared.Answer.{Answer}
+use Rattle.refusals.specs.declared.found.Found.{Found}
 use Rattle.routes.specs.Bounds.{mostRoutes}
 use Rattle.routes.specs.Check.{listCheck}
+use Rattle.routes.specs.Scan.{scanOf, listScan}
 use Rattle.routes.proofs.Check.{accepted-valid}
+use Rattle.file_rules.specs.Calls.{readFile, writeFile}
 use Rattle.file_rules.specs.File.{FileWidth}
 use Rattle.file_rules.proofs.Trips.{read-written, write-read}
 use Rattle.table_rows.specs.Words.{capacity, rowAt, fiveWords}
+use Rattle.table_rules.specs.Lookup.{lookupIn}
 use Rattle.table_rules.proofs.Lookup.{lookup-is-scan}
+use Rattle.table_rules.specs.Holds.{GoodFor}
+use Rattle.table_rules.specs.RowsRead.{RowsRead}
+use Rattle.table_rules.proofs.RowsRead.{lookup-reads-none, lookup-reads as table-reads-are}
+use Rattle.table_rules.specs.Save.{saved, saveInto}
+use Rattle.table_rules.proofs.Good.{check-is-good}
+use Rattle.table_rules.proofs.Save.{saved-is}
 use Rattle.table_rows.proofs.Words.{words-stores}
-use Rattle.table_update.specs.Calls.{builtFrom, buildInto}
-use Rattle.table_update.specs.History.{ran}
+use Rattle.table_update.specs.History.{Table}
 use Rattle.table_update.proofs.BuildIsGood.{built-lookup-is-scan}
-use Rattle.table_update.proofs.History.{history-is}
-use Rattle.image_rules.specs.Lookup.{isStride, Strided}
-use Rattle.image_build.specs.Build.{buildImage}
+use Rattle.table_update.proofs.BuildIsHistory.{build-accepted}
+use Rattle.image_rules.specs.Lookup.{isStride, Strided, lookupWords}
+use Rattle.image_rules.specs.NodesRead.{ReadsAndNumber}
+use Rattle.image_rules.proofs.NodesRead.{lookup-reads as image-reads-are}
+use Rattle.image_build.specs.Build.{Left, buildImage}
 use Rattle.image_build.proofs.Scanned.{built-is-scan}
 use Rattle.runs_rules.specs.Runs.{runs}
 use Rattle.runs_rules.proofs.Runs.{listing-unique, listing-exists}
+use Rattle.runs_rules.proofs.Maximal.{listing-is-maximal}
 use Rattle.runs_rules.proofs.Listing.{list-runs-done}
 use Rattle.table_runs.proofs.OfTable.{table-runs-done}
-use Rattle.demands.specs.Demands.{Demand1, Demand2, Demand3, emptyTable, heldAfter}
+use Rattle.maftehon.specs.Reply.{Imaged, repliedImage}
+use Rattle.demands.specs.Lamp.{Verdict, Lamp}
+use Rattle.demands.specs.Boundary.{Boundary, place, result, readCount}
+use Rattle.demands.specs.Exports.{exports}
+use Rattle.demands.specs.History.{Step, emptyTable, atEnd, heldBy}
+use Rattle.demands.specs.Demands as demands
+use Rattle.demands.specs.Demands.{Demand1, Demand2, Demand3, OneListing, Demands}
+use Rattle.demands.proofs.Shown.{On, Refuses, RefusesOnly, looking}
 use Rattle.demands.proofs.OfLists.{read-refuses, write-refuses, check-refuses, scan-refuses, list-runs-refuses}
 use Rattle.demands.proofs.OfTables.{table-check-refuses, lookup-refuses, announce-refuses, withdraw-refuses, build-refuses, save-refuses, table-runs-refuses}
-use Rattle.demands.proofs.OfImages.{image-build-refuses, image-lookup-refuses}
+use Rattle.demands.proofs.OfImages.{building, image-build-refuses, image-lookup-refuses}
+use Rattle.demands.proofs.Follows.{Follows, exports-follow}
+use Rattle.demands.proofs.Histories.{held-is}
 
-pub demand-1 : Demand1
-demand-1 = record {
-  file-read = read-refuses 32;
-  file-write = write-refuses 32;
-  list-check = check-refuses 32;
-  list-scan = scan-refuses 32;
-  list-runs = list-runs-refuses 32;
-  table-check = table-check-refuses 32;
-  table-lookup = lookup-refuses 32;
-  table-announce = announce-refuses 32;
-  table-withdraw = withdraw-refuses 32;
-  table-build = build-refuses 32;
-  table-save = save-refuses 32;
-  table-runs = table-runs-refuses 32;
-  image-build = image-build-refuses 32;
-  image-lookup = image-lookup-refuses 32;
+-- What is refused in the library's answer is refused in the words that C gets.
+module _ (checks : Verdict) where
+  laid-whole : (count : ℕ) (lent : List ℕ) (o : Outcome Reply) (y : Outcome Answer) → o ≡ replied y → Refuses checks count lent y
+      → demands.RefusesWhole checks (count ∷ []) lent o
+  laid-whole count lent o y e r =
+      subst (demands.RefusesWhole checks (count ∷ []) lent) (sym e)
+      (record { exact = r .exact; kept = λ wrong. (ap (λ (c : ℕ). y .answer .place ∷ c ∷ []) (r .kept wrong .0), r .kept wrong .1) })
+
+  laid-place : (x : Reply) (y : Answer) → x ≡ placed y → RefusesOnly checks y → demands.Refuses checks [] x
+  laid-place x y e r = subst (demands.Refuses checks []) (sym e) (record { exact = r .exact; kept = λ wrong. refl })
+
+  laid-count : (x : Reply) (y : Answer) → x ≡ counted y → RefusesOnly checks y → demands.Refuses checks (0 ∷ []) x
+  laid-count x y e r =
+      subst (demands.Refuses checks (0 ∷ [])) (sym e)
+      (record { exact = r .exact; kept = λ wrong. ap (λ (c : ℕ). y .place ∷ c ∷ []) (r .kept wrong) })
+
+  laid-found : (x : Reply) (y : Found) → x ≡ looked y → On looking checks y
+      → demands.Refuses checks (0 ∷ readCount x ∷ []) x
+  laid-found x y e r =
+      subst (λ (z : Reply). demands.Refuses checks (0 ∷ readCount z ∷ []) z) (sym e)
+      (record { exact = r .exact; kept = λ wrong. ap (λ (p : ℕ). 0 ∷ p ∷ y .reads ∷ []) (r .kept wrong) })
+
+-- the same of the build of an image, which leaves two memories
+abbrev RefusesImage : Verdict → List ℕ → List ℕ → Imaged → Type 0
+RefusesImage checks nodes ports x =
+    Lamp checks (x .reply .number) (place (x .reply))
+    ((x .reply .answer ≡ place (x .reply) ∷ 0 ∷ 0 ∷ []) × (x .nodes ≡ nodes) × (x .ports ≡ ports))
+
+laid-image : (checks : Verdict) (nodes ports : List ℕ) (x : Imaged) (y : Left) → x ≡ repliedImage y → On (building nodes ports) checks y
+    → RefusesImage checks nodes ports x
+laid-image checks nodes ports x y e r =
+    subst (RefusesImage checks nodes ports) (sym e)
+    (record {
+      exact = r .exact;
+      kept = λ wrong.
+          let k = r .kept wrong in
+          ((λ j. y .built .place ∷ k .0 j ∷ k .1 j ∷ []), k .2, k .3);
+    })
+
+pub demand-1 : (B : Boundary) → Follows B → Demand1 B
+demand-1 B f = record {
+  file-read = λ file list o m. laid-whole _ 0 list o _ (f .file-read file list o m) (read-refuses 32 file list);
+  file-write = λ list file o m. laid-whole _ 0 file o _ (f .file-write list file o m) (write-refuses 32 list file);
+  list-check = λ list x m. laid-place _ x _ (f .list-check list x m) (check-refuses 32 list);
+  list-scan = λ list a x m. laid-count _ x _ (f .list-scan list a x m) (scan-refuses 32 list a);
+  list-runs = λ list runs o m. laid-whole _ 0 runs o _ (f .list-runs list runs o m) (list-runs-refuses 32 list runs);
+  table-check = λ rows n x m. laid-place _ x _ (f .table-check rows n x m) (table-check-refuses 32 rows n);
+  table-lookup = λ rows n a x m. laid-found _ x _ (f .table-lookup rows n a x m) (lookup-refuses 32 rows n a);
+  table-reads = λ rows n a x m.
+      let is = f .table-lookup rows n a x m in
+      let none = lookup-reads-none 32 (capacity rows) (rowAt rows) n a in (
+        λ some few.
+            subst (λ (y : Reply). RowsRead 32 (rowAt rows) n a (readCount y) (y .number)) (sym is) (table-reads-are 32 (capacity rows) (rowAt rows) n a some few),
+        λ outside. ap readCount is ∙ ⊎-elim (λ (e : n ≡ 0). ap (λ (y : Found). y .reads) (none .0 e)) (λ (h : capacity rows < n). ap (λ (y : Found). y .reads) (none .1 h)) outside,
+      );
+  table-announce = λ rows n q o fits m. laid-whole _ n rows o _ (f .table-announce rows n q o m) (announce-refuses 32 rows n q fits);
+  table-withdraw = λ rows n value len o fits m. laid-whole _ n rows o _ (f .table-withdraw rows n value len o m) (withdraw-refuses 32 rows n value len fits);
+  table-build = λ list rows o m. laid-whole _ 0 rows o _ (f .table-build list rows o m) (build-refuses 32 list rows);
+  table-save = λ rows n list o m. laid-whole _ 0 list o _ (f .table-save rows n list o m) (save-refuses 32 rows n list);
+  table-runs = λ rows n runs o m. laid-whole _ 0 runs o _ (f .table-runs rows n runs o m) (table-runs-refuses 32 rows n runs);
+  image-build = λ s list nodes ports x m. laid-image _ nodes ports x _ (f .image-build s list nodes ports x m) (image-build-refuses 32 s list nodes ports);
+  image-lookup = λ s nodes ports a x m. laid-found _ x _ (f .image-lookup s nodes ports a x m) (image-lookup-refuses 32 s nodes ports a);
+  image-reads = λ s nodes ports a x m.
+      subst (λ (y : Reply). ReadsAndNumber 32 s nodes ports a (readCount y) (y .number)) (sym (f .image-lookup s nodes ports a x m))
+      (image-reads-are 32 s nodes ports a);
 }
 
 -- 32 bits are whole bytes
 address-width : FileWidth 32
 address-width = record { whole = refl; short = omega arith; ported = omega arith }
-
--- a build that is done had a valid list, and room for it
-module _ (list rows : List ℕ) (z : buildInto fiveWords 32 list rows .answer .number ≡ 0) where
-  abbrev built : List ℕ
-  built = builtFrom fiveWords 32 (routeAt list) (routeCount list) 0 rows
-
-  record Built : Type 0 where
-    fine : listCheck 32 list .number ≡ 0
-    room : routeCount list ≤ capacity rows
-    is : buildInto fiveWords 32 list rows ≡ outcome (accepted (routeCount list)) built
-
-  build-done : Built
-  unfolding buildInto
-  build-done = by (way (eqb (listCheck 32 list .number) 0)) (way (leb (routeCount list) (capacity rows)))
-    where
-      by : (eqb (listCheck 32 list .number) 0 ≡ true) ⊎ (eqb (listCheck 32 list .number) 0 ≡ false)
-          → (leb (routeCount list) (capacity rows) ≡ true) ⊎ (leb (routeCount list) (capacity rows) ≡ false) → Built
-      by (inr a) b = absurd (eqb-false (listCheck 32 list .number) 0 a (rw a at z))
-      by (inl a) (inr b) = absurd (omega (arith, rw (a, b) at z))
-      by (inl a) (inl b) = record { fine = eqb-true (listCheck 32 list .number) 0 a; room = leb-true (routeCount list) (capacity rows) b; is = rw (a, b) }
 
 -- a stride is whole in 32 bits
 strided : (s : ℕ) → isStride s ≡ true → Strided 32 s
@@ -99,31 +157,98 @@ image-strided s list nodes ports z = by (way (isStride s))
     by (inl a) = a
     by (inr a) = absurd (omega (arith, rw a at z))
 
-pub demand-2 : Demand2
-demand-2 = record {
-  table = λ list rows a fits small z.
-      let b = build-done list rows z in
-      let scan = built-lookup-is-scan fiveWords 32 (words-stores 32) (routeAt list) rows (routeCount list) a (accepted-valid 32 list fits (b .fine)) (b .room) small in
-      (rw (b .is) (scan .0), rw (b .is) (scan .1));
-  image = λ s list nodes ports a fits small z. built-is-scan 32 s list nodes ports a (strided s (image-strided s list nodes ports z)) fits small z;
-  read-written = λ list file lent. read-written 32 list file lent address-width;
-  write-read = λ file list lent. write-read 32 file list lent address-width;
-}
+-- a scan that is done
+scan-done : (list : List ℕ) (a : ℕ) → listScan 32 list a .number ≡ 0 → listScan 32 list a ≡ accepted (scanOf 32 (routeAt list) (routeCount list) a)
+unfolding listScan
+scan-done list a z = by (way (eqb (listCheck 32 list .number) 0))
+  where
+    by : (eqb (listCheck 32 list .number) 0 ≡ true) ⊎ (eqb (listCheck 32 list .number) 0 ≡ false)
+        → listScan 32 list a ≡ accepted (scanOf 32 (routeAt list) (routeCount list) a)
+    by (inl e) = rw e
+    by (inr e) = absurd (eqb-false (listCheck 32 list .number) 0 e (rw e at z))
 
 -- a capacity is at most 4,096
 capacity-le : (rows : List ℕ) → capacity rows ≤ mostRoutes
 capacity-le rows = omega arith
 
-pub demand-3 : Demand3
-demand-3 = record {
-  held = history-is fiveWords 32 (words-stores 32);
-  looked-up = λ rows calls fit a small.
-      let t = ran fiveWords 32 (emptyTable rows) calls in
-      lookup-is-scan 32 (capacity (t .words)) (rowAt (t .words)) (t .count) a (heldAfter rows calls) (history-is fiveWords 32 (words-stores 32) rows calls fit) small;
-  listed = λ rows calls lent rs fit lists room.
-      let t = ran fiveWords 32 (emptyTable rows) calls in
-      table-runs-done 32 (capacity (t .words)) (rowAt (t .words)) (t .count) (heldAfter rows calls) lent rs (history-is fiveWords 32 (words-stores 32) rows calls fit)
-      (capacity-le (t .words)) lists room;
-  listed-list = list-runs-done 32;
-  one-listing = λ f. ((runs f (2 ^ 32), listing-exists f (2 ^ 32) (omega arith)), listing-unique f (2 ^ 32));
-}
+-- a save of a table in good order, with room
+save-done : (rows : List ℕ) (n : ℕ) (list : List ℕ) (S : Routes) → GoodFor 32 (capacity rows) (rowAt rows) n S → n * 3 ≤ length list
+    → saveInto 32 (capacity rows) (rowAt rows) n list ≡ outcome (accepted n) (over (wordsOf (saved 32 (rowAt rows) n)) list)
+unfolding saveInto
+save-done rows n list S good room = rw (check-is-good 32 (capacity rows) (rowAt rows) n .1 (S, good), le-leb (n * 3) (length list) room)
+
+module _ (B : Boundary) (f : Follows B) where
+  abbrev numberOf : Outcome Reply → ℕ
+  numberOf o = o .answer .number
+
+  -- a lookup in what a build left
+  table-built : (list rows : List ℕ) (b : Outcome Reply) (a : ℕ) (x : Reply) → B .table-lookup (b .lent) (result (b .answer)) a x
+      → (y : Outcome Answer) → b ≡ replied y → x ≡ looked (lookupIn 32 (capacity (y .lent)) (rowAt (y .lent)) (y .answer .count) a)
+  table-built list rows b a x m y is =
+      f .table-lookup (b .lent) (result (b .answer)) a x m
+      ∙ ap (λ (o : Outcome Reply). looked (lookupIn 32 (capacity (o .lent)) (rowAt (o .lent)) (result (o .answer)) a)) is
+
+  pub demand-2 : Demand2 B
+  demand-2 = record {
+    scanned = λ list a x m z.
+        let is = f .list-scan list a x m in
+        is ∙ ap counted (scan-done list a (sym (ap (λ (r : Reply). r .number) is) ∙ z));
+    table = λ list rows b a x fits small m z l.
+        let is = f .table-build list rows b m in
+        let d = build-accepted fiveWords 32 list rows (sym (ap numberOf is) ∙ z) in
+        let looked-is = table-built list rows b a x l _ (is ∙ ap replied (d .is)) in
+        let scan = built-lookup-is-scan fiveWords 32 (words-stores 32) (routeAt list) rows (routeCount list) a (accepted-valid 32 list fits (d .fine)) (d .room) small in
+        (ap (λ (r : Reply). r .number) looked-is ∙ scan .0, ap result looked-is ∙ scan .1);
+    image = λ s list nodes ports b a x fits small m z l.
+        let is = f .image-build s list nodes ports b m in
+        let done = sym (ap (λ (y : Imaged). y .reply .number) is) ∙ z in
+        f .image-lookup s (b .nodes) (b .ports) a x l
+        ∙ ap (λ (y : Imaged). looked (lookupWords 32 s (y .nodes) (y .ports) a)) is
+        ∙ ap looked (built-is-scan 32 s list nodes ports a (strided s (image-strided s list nodes ports done)) fits small done);
+    read-written = λ list file lent w o fits room m z r.
+        let is = f .file-write list file w m in
+        f .file-read (take (result (w .answer)) (w .lent)) lent o r
+        ∙ ap (λ (y : Outcome Reply). replied (readFile 32 (take (result (y .answer)) (y .lent)) lent)) is
+        ∙ ap replied (read-written 32 list file lent address-width fits (sym (ap numberOf is) ∙ z) room);
+    write-read = λ file list lent g o bytes room m z r.
+        let is = f .file-read file list g m in
+        f .file-write (take (result (g .answer) * 3) (g .lent)) lent o r
+        ∙ ap (λ (y : Outcome Reply). replied (writeFile 32 (take (result (y .answer) * 3) (y .lent)) lent)) is
+        ∙ ap replied (write-read 32 file list lent address-width bytes (sym (ap numberOf is) ∙ z) room);
+  }
+
+  pub demand-3 : Demand3 B
+  demand-3 = record {
+    held = held-is B f;
+    looked-up = λ rows steps a trie x h small rule m.
+        let t = atEnd (emptyTable rows) steps in
+        let good = held-is B f rows steps h in
+        f .table-lookup (t .words) (t .count) a x m
+        ∙ ap looked (lookup-is-scan 32 (capacity (t .words)) (rowAt (t .words)) (t .count) a (heldBy steps) good small)
+        ∙ ap (λ (u : Trie). looked (found (scan (heldBy steps) (bits 32 a)) (reads u (bits 32 a)))) (trie-unique (good .placed .trie) trie (heldBy steps) (good .placed .rule) rule);
+    saved = λ rows steps lent o h room m.
+        let t = atEnd (emptyTable rows) steps in
+        let good = held-is B f rows steps h in (
+          saved 32 (rowAt (t .words)) (t .count),
+          saved-is 32 (capacity (t .words)) (rowAt (t .words)) (t .count) (heldBy steps) good (omega (arith, good .few)),
+          f .table-save (t .words) (t .count) lent o m ∙ ap replied (save-done (t .words) (t .count) lent (heldBy steps) good room),
+        );
+    listed = λ rows steps lent rs o h lists room m.
+        let t = atEnd (emptyTable rows) steps in
+        f .table-runs (t .words) (t .count) lent o m
+        ∙ ap replied
+        (table-runs-done 32 (capacity (t .words)) (rowAt (t .words)) (t .count) (heldBy steps) lent rs (held-is B f rows steps h)
+        (capacity-le (t .words)) (listing-is-maximal _ _ rs .1 lists) room);
+    listed-list = λ list lent rs x o c z lists room m.
+        f .list-runs list lent o m
+        ∙ ap replied (list-runs-done 32 list lent rs (sym (ap (λ (r : Reply). r .number) (f .list-check list x c)) ∙ z) (listing-is-maximal _ _ rs .1 lists) room);
+  }
+
+pub one-listing : OneListing
+one-listing f = (
+  (runs f (2 ^ 32), listing-is-maximal f (2 ^ 32) (runs f (2 ^ 32)) .0 (listing-exists f (2 ^ 32) (omega arith))),
+  λ rs qs x y. listing-unique f (2 ^ 32) rs qs (listing-is-maximal f (2 ^ 32) rs .1 x) (listing-is-maximal f (2 ^ 32) qs .1 y),
+)
+
+pub exports-meet : Demands exports
+exports-meet = record { one = demand-1 exports exports-follow; two = demand-2 exports exports-follow; three = demand-3 exports exports-follow }

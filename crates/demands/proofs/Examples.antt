@@ -1,44 +1,49 @@
 -- The starred bench examples hold. The withdrawal goes a step at a time, so that each computes with rows that are written out. Assumes
 -- nothing.
-use mathlib.Core.Path.{_≡_, refl, ap, _∙_}
-use mathlib.Core.Bool.{true, false, _&&_}
-use mathlib.Core.List.{List, [], _∷_}
-use Prim.Native.Nat.{ℕ, _-_, _/_, _^_}
-use lib.Dec.{leb}
+use mathlib.Core.Path.{_≡_, refl, sym, ap, _∙_}
+use mathlib.Core.Bool.{true, false}
+use mathlib.Core.List.{List, [], _∷_, _++_}
+use Prim.Native.Nat.{ℕ, _-_, _^_}
 use lib.Count.{ones, onesIn}
-use lib.ListN.{length, replicate}
-use Rattle.promise.specs.Over.{outcome, over}
+use lib.ListN.{replicate}
+use Rattle.promise.specs.Over.{Outcome, outcome}
 use Rattle.bits.specs.Bits.{Bits, bits}
 use Rattle.trie.specs.Scan.{longest, plainScan}
 use Rattle.trie.specs.Routes.{Route as BitRoute}
-use Rattle.refusals.specs.Refusals.{accepted}
+use Rattle.refusals.specs.Refusals.{accepted, found as answered}
+use Rattle.refusals.specs.Reply.{Reply, looked, replied}
 use Rattle.routes.specs.Routes.{route, routeAt, noRoute}
 use Rattle.lists.specs.Numbered.{listOf}
 use Rattle.routes.specs.Check.{faultAt, firstFault, routesCheck, listCheck}
 use Rattle.routes.specs.declared.Route.{Route}
-use Rattle.table_rows.specs.Words.{rowAt, storeRow, fiveWords}
+use Rattle.table_rows.specs.Words.{capacity, rowAt, storeRow, fiveWords}
 use Rattle.table_rules.specs.Announce.{heldAt}
 use Rattle.table_rules.specs.Check.{seen, noRows, seenAt, isGood}
 use Rattle.demands.proofs.Steps.{seen-row, best-none, best-own, best-below, cut-on, cut-last, relink-on, relink-here}
 use Rattle.table_rules.specs.Withdraw.{cut, relink, closeGap, withdrawn}
 use Rattle.table_rules.specs.Lookup.{walk, lookupIn}
 use Rattle.table_update.specs.Calls.{withdrawIn, withdrawInto}
-use Rattle.image_rules.specs.Image.{someLonger, imagePaths, imageNodes, imagePorts}
-use Rattle.image_rules.specs.Lookup.{isStride, lookupWords}
+use Rattle.image_rules.specs.Image.{someLonger}
+use Rattle.image_rules.specs.Lookup.{lookupWords}
 use Rattle.image_rules.specs.Lookup as breadth
-use Rattle.image_build.specs.Build.{left, doneBuild, listRoutes, buildImage}
+use Rattle.image_build.specs.Build.{Left, left, doneBuild, listRoutes, buildImage}
 use Rattle.runs_rules.specs.Boundaries.{insert, boundaries, runsBy}
 use Rattle.runs_rules.specs.Listing as runs
-use Rattle.runs_rules.specs.Runs.{run, runWords}
+use Rattle.runs_rules.specs.Runs.{run}
 use Rattle.runs_rules.proofs.Listing.{listed-boundaries}
-use Rattle.demands.specs.Examples.{address, row, tableI, seven, twoHalves, afterwards, imageWords, foundIn, StarredHold}
+use Rattle.maftehon.specs.Reply.{Imaged, repliedImage}
+use Rattle.demands.specs.Exports.{exports}
+use Rattle.demands.specs.Examples.{image-build, Answers, dirt, address, row, tableI, inTableI, found, seven, sixNodes, sevenPorts, twoHalves, StarredHold}
+use Rattle.demands.proofs.Follows.{exports-follow}
+use Rattle.demands.proofs.Images.{image-is}
+use Rattle.demands.proofs.Accepted.{no-routes-fine}
 
 -- the route that a row of the rules' table holds
 abbrev holding : ℕ → ℕ → ℕ → Route
 holding bits len port = route (address bits len) len port
 
 -- Table I is in good order: what the check has seen, row by row from below
-good : isGood 32 10 (rowAt tableI) 10 ≡ true
+good : isGood 32 11 (rowAt tableI) 10 ≡ true
 unfolding isGood rowAt storeRow
 good =
     let M = rowAt tableI in
@@ -60,7 +65,7 @@ Fill = List ℕ → List ℕ
 
 abbrev tableWith : Fill → Fill → Fill → Fill → Fill → Fill → List ℕ
 tableWith r0 r2 r4 r6 r8 r9 =
-    r0 (row 0 2 2 0 3 (r2 (row 1 2 4 0 0 (r4 (row 3 2 6 0 8 (r6 (row 5 3 8 0 0 (r8 (r9 [])))))))))
+    r0 (row 0 2 2 0 3 (r2 (row 1 2 4 0 0 (r4 (row 3 2 6 0 8 (r6 (row 5 3 8 0 0 (r8 (r9 (dirt 7))))))))))
 
 -- 10010 goes up to row 0
 abbrev first : List ℕ
@@ -128,62 +133,104 @@ seven-fine : listCheck 32 seven ≡ accepted 0
 unfolding listCheck routesCheck firstFault faultAt
 seven-fine = refl
 
--- an image that has exactly the room it needs
-module _ (s : ℕ) (list nodes ports : List ℕ) (rs : List BitRoute) (is : listRoutes 32 list ≡ rs) (fine : listCheck 32 list ≡ accepted 0)
-    (stride : isStride s ≡ true) (nodesAre : imageNodes s (32 / s) rs ≡ nodes) (portsAre : imagePorts s (32 / s) rs ≡ ports) where
-  image-is : (lentNodes lentPorts : List ℕ) → (leb (length nodes) (length lentNodes) && leb (length ports) (length lentPorts)) ≡ true
-      → buildImage 32 s list lentNodes lentPorts
-      ≡ left (doneBuild (length (imagePaths s (32 / s) rs)) (length ports)) (over nodes lentNodes) (over ports lentPorts)
-  unfolding buildImage
-  image-is lentNodes lentPorts room = rw (stride, fine, is, nodesAre, portsAre, room)
-
-nine : buildImage 32 1 seven (replicate 18 0) (replicate 7 0)
-    ≡ left (doneBuild 6 7) (0 ∷ 1 ∷ 0 ∷ 1 ∷ 2 ∷ 0 ∷ 2 ∷ 2 ∷ 1 ∷ 3 ∷ 0 ∷ 2 ∷ 1 ∷ 1 ∷ 4 ∷ 3 ∷ 0 ∷ 5 ∷ []) (1 ∷ 2 ∷ 3 ∷ 4 ∷ 5 ∷ 6 ∷ 7 ∷ [])
+nine : buildImage 32 1 seven (dirt 22) (dirt 9) ≡ left (doneBuild 6 7) sixNodes sevenPorts
 unfolding someLonger listOf bits longest plainScan
 nine =
     image-is 1 seven (0 ∷ 1 ∷ 0 ∷ 1 ∷ 2 ∷ 0 ∷ 2 ∷ 2 ∷ 1 ∷ 3 ∷ 0 ∷ 2 ∷ 1 ∷ 1 ∷ 4 ∷ 3 ∷ 0 ∷ 5 ∷ []) (1 ∷ 2 ∷ 3 ∷ 4 ∷ 5 ∷ 6 ∷ 7 ∷ []) sevenBits seven-listed
-    seven-fine refl refl refl (replicate 18 0) (replicate 7 0) refl
+    seven-fine refl refl refl (dirt 22) (dirt 9) refl
 
-ten : buildImage 32 2 seven (replicate 9 0) (replicate 10 0)
-    ≡ left (doneBuild 3 10) (6 ∷ 1 ∷ 0 ∷ 15 ∷ 0 ∷ 2 ∷ 15 ∷ 0 ∷ 6 ∷ []) (1 ∷ 2 ∷ 3 ∷ 3 ∷ 4 ∷ 4 ∷ 6 ∷ 7 ∷ 5 ∷ 5 ∷ [])
+ten : buildImage 32 2 seven (dirt 11) (dirt 12)
+    ≡ left (doneBuild 3 10) (6 ∷ 1 ∷ 0 ∷ 15 ∷ 0 ∷ 2 ∷ 15 ∷ 0 ∷ 6 ∷ dirt 2) (1 ∷ 2 ∷ 3 ∷ 3 ∷ 4 ∷ 4 ∷ 6 ∷ 7 ∷ 5 ∷ 5 ∷ dirt 2)
 unfolding someLonger listOf bits longest plainScan
 ten =
     image-is 2 seven (6 ∷ 1 ∷ 0 ∷ 15 ∷ 0 ∷ 2 ∷ 15 ∷ 0 ∷ 6 ∷ []) (1 ∷ 2 ∷ 3 ∷ 3 ∷ 4 ∷ 4 ∷ 6 ∷ 7 ∷ 5 ∷ 5 ∷ []) sevenBits seven-listed seven-fine refl refl refl
-    (replicate 9 0) (replicate 10 0) refl
+    (dirt 11) (dirt 12) refl
 
-pub eleven : buildImage 32 4 [] (replicate 3 0) (replicate 16 0) ≡ left (doneBuild 1 16) (65535 ∷ 0 ∷ 0 ∷ []) (replicate 16 0)
-unfolding someLonger listOf bits longest plainScan listCheck routesCheck firstFault
-eleven = image-is 4 [] (65535 ∷ 0 ∷ 0 ∷ []) (replicate 16 0) [] refl refl refl refl refl (replicate 3 0) (replicate 16 0) refl
+eleven : buildImage 32 4 [] (dirt 4) (dirt 17) ≡ left (doneBuild 1 16) (65535 ∷ 0 ∷ 0 ∷ dirt 1) (replicate 16 0 ++ dirt 1)
+unfolding someLonger listOf bits longest plainScan
+eleven = image-is 4 [] (65535 ∷ 0 ∷ 0 ∷ []) (replicate 16 0) [] refl no-routes-fine refl refl refl (dirt 4) (dirt 17) refl
 
 three-runs : runs.listed 32 (routeAt twoHalves) 2
     ≡ run 0 (address 10 8 - 1) 0 ∷ run (address 10 8) (address 11 8 - 1) 7 ∷ run (address 11 8) (2 ^ 32 - 1) 0 ∷ []
 unfolding boundaries insert runsBy listOf longest plainScan
 three-runs = listed-boundaries 32 (routeAt twoHalves) 2
 
+two-halves-fine : listCheck 32 twoHalves ≡ accepted 0
+unfolding listCheck routesCheck firstFault faultAt
+two-halves-fine = refl
+
+twelve : runs.listRuns 32 twoHalves (dirt 11)
+    ≡ outcome (accepted 3)
+    (0 ∷ (address 10 8 - 1) ∷ 0 ∷ address 10 8 ∷ (address 11 8 - 1) ∷ 7 ∷ address 11 8 ∷ (2 ^ 32 - 1) ∷ 0 ∷ dirt 2)
+unfolding runs.listRuns runs.writeRuns
+twelve = rw (two-halves-fine, three-runs)
+
+-- an answer that the contract allows is the definition's, and that is computed
+looked-is : (bits len port reads : ℕ) → lookupIn 32 (capacity tableI) (rowAt tableI) 10 (address bits len) ≡ answered port reads
+    → (words : List ℕ) → Answers exports (inTableI bits len) words → words ≡ found port reads
+looked-is bits len port reads is words x =
+    sym (x .2) ∙ ap (λ (y : Reply). y .number ∷ y .answer) (exports-follow .table-lookup tableI 10 (address bits len) (x .0) (x .1) ∙ ap looked is)
+
+abbrev imageWords : Imaged → List ℕ
+imageWords x = (x .reply .number ∷ x .reply .answer) ++ x .nodes ++ x .ports
+
+imaged-is : (s : ℕ) (list nodes ports : List ℕ) (y : Left) → buildImage 32 s list nodes ports ≡ y
+    → (words : List ℕ) → Answers exports (image-build s list nodes ports) words → words ≡ imageWords (repliedImage y)
+imaged-is s list nodes ports y is words x =
+    sym (x .2) ∙ ap imageWords (exports-follow .image-build s list nodes ports (x .0) (x .1) ∙ ap repliedImage is)
+
+abbrev wholeWords : Outcome Reply → List ℕ
+wholeWords o = (o .answer .number ∷ o .answer .answer) ++ o .lent
+
+nine-found : lookupWords 32 1 sixNodes sevenPorts (address 5 4) ≡ answered 1 2
+unfolding breadth.walk lookupWords ones onesIn
+nine-found = refl
+
 pub starred-hold : StarredHold
-unfolding walk lookupIn breadth.walk lookupWords ones onesIn rowAt storeRow
-starred-hold =
-    let eight = ap afterwards withdrawal-is in
-    let nine-found = ap (foundIn 1 (address 5 4)) nine in
-    let twelve = ap runWords three-runs in (
-      refl,
+unfolding walk lookupIn rowAt storeRow
+starred-hold = (
+  looked-is 38 6 1 1 refl,
+  (
+    looked-is 0 2 2 2 refl,
+    (
+      looked-is 18 5 3 2 refl,
       (
-        refl,
+        looked-is 8 4 7 4 refl,
         (
-          refl,
+          looked-is 5 3 8 4 refl,
           (
-            refl,
+            looked-is 13 4 6 3 refl,
             (
-              refl,
+              looked-is 15 4 10 5 refl,
               (
-                refl,
+                λ words x.
+                    sym (x .2)
+                    ∙ ap wholeWords (exports-follow .table-withdraw tableI 10 (address 38 6) 6 (x .0) (x .1) ∙ ap replied withdrawal-is),
                 (
-                  refl,
-                  (eight, (ap imageWords nine, (nine-found, (ap imageWords ten, (ap imageWords eleven, (twelve, tt)))))),
+                  imaged-is 1 seven (dirt 22) (dirt 9) _ nine,
+                  (
+                    λ words x.
+                        sym (x .2)
+                        ∙ ap (λ (y : Reply). y .number ∷ y .answer)
+                        (exports-follow .image-lookup 1 sixNodes sevenPorts (address 5 4) (x .0) (x .1) ∙ ap looked nine-found),
+                    (
+                      imaged-is 2 seven (dirt 11) (dirt 12) _ ten,
+                      (
+                        imaged-is 4 [] (dirt 4) (dirt 17) _ eleven,
+                        (
+                          λ words x.
+                              sym (x .2) ∙ ap wholeWords (exports-follow .list-runs twoHalves (dirt 11) (x .0) (x .1) ∙ ap replied twelve),
+                          tt,
+                        ),
+                      ),
+                    ),
+                  ),
                 ),
               ),
             ),
           ),
         ),
       ),
-    )
+    ),
+  ),
+)

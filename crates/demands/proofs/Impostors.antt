@@ -1,198 +1,275 @@
--- The five impostors break their promises: each at a call or two that are written out. Assumes nothing.
-use mathlib.Core.Path.{_≡_, refl, sym, ap, ap₂, subst, _∙_}
-use mathlib.Core.Bool.{Bool, true, _&&_}
-use mathlib.Core.List.{List, [], _∷_, _++_}
-use Prim.Native.Nat.{ℕ, zero, suc, _-_, _^_}
+-- The five impostors break the demands: each at a history of a call or two, or at a build, that is written out. Assumes nothing.
+use mathlib.Core.Path.{_≡_, refl, sym, ap, subst, _∙_}
+use mathlib.Core.Logic.{_⊎_, inl, inr}
+use mathlib.Core.Bool.{Bool, true, false, cond, true≢false, false≢true}
+use mathlib.Core.List.{List, [], _∷_}
+use Prim.Native.Nat.{ℕ, zero, suc, _+_, _*_, _^_, _<_, _≤_}
 use native.Mathlib.Omega.{arith}
-use lib.Dec.{ltb}
-use borrow.Author.Tests.{ltb-true}
-use Rattle.lists.proofs.Tests.{both}
-use lib.Count.{ones, onesIn}
-use lib.ListN.{getD, replicate}
-use Rattle.promise.specs.Over.{Outcome, outcome}
-use Rattle.refusals.specs.Refusals.{accepted, found}
-use Rattle.routes.specs.Routes.{routeAt, Words}
-use Rattle.routes.specs.Check.{firstFault, routesCheck, listCheck}
-use Rattle.routes.specs.Scan.{scanOf, listScan}
-use Rattle.refusals.specs.declared.Answer.{Answer}
-use Rattle.file_rules.specs.Theorems.{emptyFile}
-use Rattle.file_rules.proofs.Trips.{empty-file}
-use Rattle.table_rows.specs.Words.{capacity, rowAt, storeRow, fiveWords}
-use Rattle.table_rules.specs.Lookup.{walk, lookupIn}
-use Rattle.table_rules.specs.Announce.{heldAt, sink, announced}
-use Rattle.table_rules.specs.Withdraw.{withdrawn}
-use Rattle.table_rules.specs.Check.{seen, noRows, seenAt, isGood}
-use Rattle.table_rules.specs.Save.{saveInto}
-use Rattle.refusals.specs.declared.found.Found.{Found}
-use Rattle.table_rules.proofs.Lookup.{lookup-is-scan}
-use Rattle.table_update.specs.Calls.{announceIn, announceInto, withdrawIn, withdrawInto, buildInto}
-use Rattle.image_rules.specs.Lookup as breadth
-use Rattle.image_rules.specs.Lookup.{lookupWords}
-use Rattle.image_build.specs.Build.{Left}
-use Rattle.runs_rules.specs.Runs.{Run, run, Lists}
-use Rattle.runs_rules.specs.Listing.{writeRuns}
-use Rattle.runs_rules.proofs.Listing.{listed-lists, listed-none, list-runs-done}
-use Rattle.table_runs.specs.TableRuns.{tableRoutes, tableRuns}
-use Rattle.demands.specs.Impostors.{TableCall, ImageCall, announceCall, withdrawCall, lookupCall, imageLookupCall, ImpostorsStopped, EachAccepts, RowsReadArePath, NodesReadArePassed}
-use Rattle.demands.proofs.Steps.{seen-row}
-use Rattle.demands.proofs.Demands.{demand-2}
-use Rattle.demands.proofs.Examples.{eleven}
+use lib.ListN.{replicate}
+use Rattle.promise.specs.Over.{Outcome}
+use Rattle.lists.proofs.Tests.{lt-or-le}
+use Rattle.bits.specs.Bits.{bits, prefixBits, same}
+use Rattle.trie.specs.Routes.{Routes}
+use Rattle.trie.specs.Scan.{longest, plainScan}
+use Rattle.refusals.specs.Refusals.{found as answered}
+use Rattle.refusals.specs.Reply.{Reply, looked}
+use Rattle.lists.specs.Numbered.{listOf}
+use Rattle.routes.specs.Routes.{route, routeAt, routeCount, Words}
+use Rattle.routes.specs.Scan.{scanOf}
+use Rattle.routes.specs.declared.Route.{Route}
+use Rattle.table_rows.specs.Words.{capacity, rowAt, fiveWords}
+use Rattle.table_rules.specs.Rows.{rowBits}
+use Rattle.table_rules.specs.Holds.{GoodFor}
+use Rattle.table_rules.proofs.Good.{good-unique}
+use Rattle.table_update.specs.Calls.{buildInto}
+use Rattle.table_update.specs.History.{announcing, withdrawing, Table}
+use Rattle.image_rules.specs.Image.{passed}
+use Rattle.image_build.specs.Build.{Left, listRoutes, buildImage}
+use Rattle.maftehon.specs.Reply.{Imaged}
+use Rattle.demands.specs.Boundary.{Boundary, result, readCount, Ends}
+use Rattle.demands.specs.History.{Step, May, left, Happened, emptyTable, atEnd, heldBy}
+use Rattle.demands.specs.Demands.{Demands}
+use Rattle.demands.specs.Checks.{announceChecks, withdrawChecks, NotHeld}
+use Rattle.demands.specs.Impostors.{IgnoresAnnouncements, IgnoresWithdrawals, FixedPort, FixedPortOfImage, ImpostorsStopped}
+use Rattle.demands.proofs.Decided.{demand-1-decides}
+use Rattle.demands.proofs.OfTables.{build-refuses}
+use Rattle.demands.proofs.OfImages.{image-build-refuses}
+use Rattle.demands.proofs.Accepted.{wholeSpace, no-routes-built, whole-space-built, no-routes-imaged, whole-space-imaged}
 
--- words that are written out: the test that each is below 2^32 is computed
-abbrev allFit : List ℕ → Bool
-allFit [] = true
-allFit (x ∷ words) = ltb x (2 ^ 32) && allFit words
+-- the whole space to a port
+abbrev whole : ℕ → Route
+whole port = route 0 0 port
 
-fits : (words : List ℕ) → allFit words ≡ true → Words 32 words
-fits [] e i = omega arith
-fits (x ∷ words) e zero = ltb-true x (2 ^ 32) (both (ltb x (2 ^ 32)) (allFit words) e .0)
-fits (x ∷ words) e (suc i) = fits words (both (ltb x (2 ^ 32)) (allFit words) e .1) i
+abbrev zeros : List ℕ
+zeros = replicate 5 0
 
--- a table of one row, the whole space to a port
-abbrev oneRow : ℕ → List ℕ
-oneRow port = 0 ∷ 0 ∷ port ∷ 0 ∷ 0 ∷ []
+abbrev Good : Table → Routes → Type 0
+Good t S = GoodFor 32 (capacity (t .words)) (rowAt (t .words)) (t .count) S
 
--- port 1 for the whole space where there is no route yet; and port 2, where there is one to port 1
-abbrev onFree : TableCall
-onFree = record { rows = oneRow 0; n = 0; value = 0; len = 0; port = 1; fit = fits (0 ∷ 0 ∷ 0 ∷ 1 ∷ oneRow 0) refl }
+-- what the checks of an announcement, or of a withdrawal, of the whole space say of a table in good order
+announce-fine : (t : Table) (S : Routes) (port : ℕ) → Good t S → 0 < port → port < 4095 → (0 < S []) ⊎ (t .count < capacity (t .words))
+    → announceChecks 32 (t .words) (t .count) (whole port) 0 0
+unfolding bits
+announce-fine t S port good some few room =
+    inr (λ h. omega arith, inr (λ h. false≢true (sym h), inr (noPort, inr (λ wrong. wrong (S, good), inr (full room, (refl, refl))))))
+  where
+    noPort : (port ≡ 0) ⊎ (4094 < port) → ⊥
+    noPort (inl e) = omega arith
+    noPort (inr h) = omega arith
 
-abbrev onOne : TableCall
-onOne = record { rows = oneRow 1; n = 1; value = 0; len = 0; port = 2; fit = fits (1 ∷ 0 ∷ 0 ∷ 2 ∷ oneRow 1) refl }
+    full : (0 < S []) ⊎ (t .count < capacity (t .words)) → NotHeld 32 (t .words) (t .count) 0 0 × (capacity (t .words) ≤ t .count) → ⊥
+    full (inl held) wrong = omega (arith, wrong .0 S good)
+    full (inr h) wrong = omega (arith, wrong .1)
 
--- the table of one row is in good order
-good-one : isGood 32 1 (rowAt (oneRow 1)) 1 ≡ true
-unfolding isGood rowAt storeRow
-good-one =
-    let row0 : seenAt 32 (rowAt (oneRow 1)) 1 32 0 0 ≡ seen 1 0 0 = seen-row 32 (rowAt (oneRow 1)) 1 31 0 0 noRows noRows refl refl refl in
-    rw row0
+withdraw-fine : (t : Table) (S : Routes) → Good t S → 0 < S [] → withdrawChecks 32 (t .words) (t .count) 0 0 0 0
+unfolding bits
+withdraw-fine t S good held =
+    inr (λ h. omega arith, inr (λ h. false≢true (sym h), inr (λ wrong. wrong (S, good), inr (λ none. omega (arith, none S good), (refl, refl)))))
 
-announced-free : announceCall onFree ≡ outcome (accepted 1) (oneRow 1)
-unfolding announceInto announceIn isGood announced rowAt storeRow
-announced-free = refl
+-- one memory holds one port for the whole space, whatever n is said to be
+two-ports : (rows : List ℕ) (n m : ℕ) (S T : Routes) → GoodFor 32 (capacity rows) (rowAt rows) n S → GoodFor 32 (capacity rows) (rowAt rows) m T
+    → S [] ≡ 1 → T [] ≡ 2 → ⊥
+two-ports rows n m S T x y one two =
+    let i = x .routes .only [] (omega (arith, one)) in
+    let k = y .routes .only [] (omega (arith, two)) in
+    let bits-same : rowBits 32 (rowAt rows (i .0)) ≡ rowBits 32 (rowAt rows (k .0)) = i .2 ∙ sym (k .2) in
+    let port-one : rowAt rows (i .0) .port ≡ 1 = sym (x .routes .here (i .0) (i .1)) ∙ ap S (i .2) ∙ one in
+    let port-two : rowAt rows (k .0) .port ≡ 2 = sym (y .routes .here (k .0) (k .1)) ∙ ap T (k .2) ∙ two in
+    by i k bits-same port-one port-two (lt-or-le n m)
+  where
+    by : (i : (i : ℕ) × (i < n) × (rowBits 32 (rowAt rows i) ≡ [])) (k : (k : ℕ) × (k < m) × (rowBits 32 (rowAt rows k) ≡ []))
+        → rowBits 32 (rowAt rows (i .0)) ≡ rowBits 32 (rowAt rows (k .0)) → rowAt rows (i .0) .port ≡ 1 → rowAt rows (k .0) .port ≡ 2
+        → (n < m) ⊎ (m ≤ n) → ⊥
+    by i k e one two (inl h) = omega (arith, one, two, ap (λ (r : ℕ). rowAt rows r .port) (y .routes .different (i .0) (k .0) (omega (arith, i .1)) (k .1) e))
+    by i k e one two (inr h) = omega (arith, one, two, ap (λ (r : ℕ). rowAt rows r .port) (x .routes .different (i .0) (k .0) (i .1) (omega (arith, k .1)) e))
 
-announced-one : announceCall onOne ≡ outcome (accepted 1) (oneRow 2)
-unfolding announceInto announceIn announced sink heldAt rowAt storeRow
-announced-one = rw good-one
+-- one table holds the whole space, or does not
+two-sets : (rows : List ℕ) (n : ℕ) (S T : Routes) → GoodFor 32 (capacity rows) (rowAt rows) n S → GoodFor 32 (capacity rows) (rowAt rows) n T
+    → S [] ≡ 1 → T [] ≡ 0 → ⊥
+two-sets rows n S T x y one none =
+    omega (arith, one, none, ap (λ (R : Routes). R []) (good-unique 32 (capacity rows) (rowAt rows) n S T x y))
 
-withdrawn-one : withdrawCall onOne ≡ outcome (accepted 0) (oneRow 0)
-unfolding withdrawInto withdrawIn withdrawn heldAt rowAt storeRow
-withdrawn-one = rw good-one
+module _ (B : Boundary) (ends : Ends B) (d : Demands B) where
+  -- From five zero words, the whole space is announced to port 1.
+  abbrev first : Step
+  first = record { call = announcing (whole 1); outcome = ends .table-announce zeros 0 (whole 1) .0 }
 
--- lookups: nothing in the empty table, one row in the other
-none-found : lookupCall onFree ≡ found 0 0
-unfolding lookupIn rowAt storeRow
-none-found = refl
+  first-may : May B (emptyTable zeros) (announcing (whole 1)) (first .outcome)
+  first-may = ends .table-announce zeros 0 (whole 1) .1
 
-one-found : lookupCall onOne ≡ found 1 1
-unfolding lookupIn walk rowAt storeRow
-one-found = refl
+  empty-good : Good (emptyTable zeros) (heldBy [])
+  empty-good = d .three .held zeros [] tt
 
--- images at stride 1: every address to port 0; to port 1; and through a second node
-abbrev image : (nodes ports : List ℕ) → allFit (1 ∷ 0 ∷ nodes ++ ports) ≡ true → ImageCall
-image nodes ports e = record { stride = 1; nodes = nodes; ports = ports; address = 0; fit = fits (1 ∷ 0 ∷ nodes ++ ports) e }
+  first-accepted : first .outcome .answer .number ≡ 0
+  first-accepted =
+      demand-1-decides .table-announce zeros 0 (whole 1) _ _ 0 0
+      (d .one .table-announce zeros 0 (whole 1) (first .outcome) (omega arith) first-may .exact)
+      (announce-fine (emptyTable zeros) (heldBy []) 1 empty-good (omega arith) (omega arith) (inr (omega arith)))
+      .0
 
-abbrev onImage : ImageCall
-onImage = image (3 ∷ 0 ∷ 0 ∷ []) (0 ∷ 0 ∷ []) refl
+  first-good : Good (left first) (heldBy (first ∷ []))
+  first-good = d .three .held zeros (first ∷ []) (omega arith, first-may, tt)
 
-abbrev onOtherPort : ImageCall
-onOtherPort = image (3 ∷ 0 ∷ 0 ∷ []) (1 ∷ 1 ∷ []) refl
+  first-held : heldBy (first ∷ []) [] ≡ 1
+  unfolding bits
+  first-held = rw first-accepted
 
-abbrev onTwoNodes : ImageCall
-onTwoNodes = image (1 ∷ 1 ∷ 0 ∷ 3 ∷ 0 ∷ 1 ∷ []) (0 ∷ 0 ∷ 0 ∷ []) refl
+  -- so it has a row, that of the whole space
+  first-row : (i : ℕ) × (i < left first .count) × (rowBits 32 (rowAt (left first .words) i) ≡ [])
+  first-row = first-good .routes .only [] (omega (arith, first-held))
 
-image-found : imageLookupCall onImage ≡ found 0 1
-unfolding lookupWords breadth.walk ones onesIn
-image-found = refl
+  -- Port 2 is announced for it.
+  abbrev again : Step
+  again = record { call = announcing (whole 2); outcome = ends .table-announce (left first .words) (left first .count) (whole 2) .0 }
 
-other-port-found : imageLookupCall onOtherPort ≡ found 1 1
-unfolding lookupWords breadth.walk ones onesIn
-other-port-found = refl
+  again-may : May B (left first) (announcing (whole 2)) (again .outcome)
+  again-may = ends .table-announce (left first .words) (left first .count) (whole 2) .1
 
-two-nodes-found : imageLookupCall onTwoNodes ≡ found 0 2
-unfolding lookupWords breadth.walk ones onesIn
-two-nodes-found = refl
+  again-accepted : again .outcome .answer .number ≡ 0
+  again-accepted =
+      demand-1-decides .table-announce (left first .words) (left first .count) (whole 2) _ _ 0 0
+      (d .one .table-announce (left first .words) (left first .count) (whole 2) (again .outcome) (omega arith) again-may .exact)
+      (announce-fine (left first) (heldBy (first ∷ [])) 2 first-good (omega arith) (omega arith) (inl (omega (arith, first-held))))
+      .0
 
--- what a function that meets its promise answers at a call
-module _ {X Y : Type 0} (promise : X → Y) (f : X → Y) (meets : (x : X) → f x ≡ promise x) where
-  answers : (x : X) (y : Y) → promise x ≡ y → f x ≡ y
-  answers x y is = meets x ∙ is
+  again-good : Good (left again) (heldBy (first ∷ again ∷ []))
+  again-good = d .three .held zeros (first ∷ again ∷ []) (omega arith, first-may, (omega arith, again-may, tt))
 
-  -- a number that is the same at two calls, and is not
-  one-number : (of : Y → ℕ) (x x′ : X) (y y′ : Y) (k : ℕ) → promise x ≡ y → promise x′ ≡ y′ → of (f x) ≡ k → of (f x′) ≡ k → of y ≡ of y′
-  one-number of x x′ y y′ k is is′ e e′ = sym (ap of (answers x y is)) ∙ e ∙ sym e′ ∙ ap of (answers x′ y′ is′)
+  again-held : heldBy (first ∷ again ∷ []) [] ≡ 2
+  unfolding bits
+  again-held = rw (first-accepted, again-accepted)
 
--- the port of the one row
-portWord : List ℕ → ℕ
-portWord words = getD words 2 0
+  -- Or it is withdrawn.
+  abbrev gone : Step
+  gone = record { call = withdrawing 0 0; outcome = ends .table-withdraw (left first .words) (left first .count) 0 0 .0 }
+
+  gone-may : May B (left first) (withdrawing 0 0) (gone .outcome)
+  gone-may = ends .table-withdraw (left first .words) (left first .count) 0 0 .1
+
+  gone-accepted : gone .outcome .answer .number ≡ 0
+  gone-accepted =
+      demand-1-decides .table-withdraw (left first .words) (left first .count) 0 0 _ _ 0 0
+      (d .one .table-withdraw (left first .words) (left first .count) 0 0 (gone .outcome) (omega arith) gone-may .exact)
+      (withdraw-fine (left first) (heldBy (first ∷ [])) first-good (omega (arith, first-held)))
+      .0
+
+  gone-good : Good (left gone) (heldBy (first ∷ gone ∷ []))
+  gone-good = d .three .held zeros (first ∷ gone ∷ []) (omega arith, first-may, (omega arith, gone-may, tt))
+
+  gone-held : heldBy (first ∷ gone ∷ []) [] ≡ 0
+  unfolding bits
+  gone-held = rw (first-accepted, gone-accepted)
+
+  -- rows that are left as they were hold port 1 for the whole space, and no other
+  later-announced : IgnoresAnnouncements B → ⊥
+  later-announced ignores =
+      let kept = ignores (left first .words) (left first .count) (whole 2) (again .outcome) (omega (arith, first-row .1)) again-may again-accepted in
+      two-ports (left first .words) (left first .count) (left again .count) (heldBy (first ∷ [])) (heldBy (first ∷ again ∷ [])) first-good
+      (subst (λ (rows : List ℕ). GoodFor 32 (capacity rows) (rowAt rows) (left again .count) (heldBy (first ∷ again ∷ []))) kept again-good)
+      first-held again-held
+
+  -- a table that is left as it was holds a route that is not held
+  later-withdrawn : IgnoresWithdrawals B → ⊥
+  later-withdrawn ignores =
+      let kept = ignores (left first .words) (left first .count) 0 0 (gone .outcome) (omega (arith, first-row .1)) gone-may gone-accepted in
+      two-sets (left first .words) (left first .count) (heldBy (first ∷ [])) (heldBy (first ∷ gone ∷ [])) first-good
+      (subst (λ (n : ℕ). GoodFor 32 (capacity (left first .words)) (rowAt (left first .words)) n (heldBy (first ∷ gone ∷ []))) (kept .1)
+      (subst (λ (rows : List ℕ). GoodFor 32 (capacity rows) (rowAt rows) (left gone .count) (heldBy (first ∷ gone ∷ []))) (kept .0) gone-good))
+      first-held gone-held
+
+-- Builds from no route, and from the whole space to port 1, are accepted; so lookups in what they leave are to answer 0, and 1.
+module _ (B : Boundary) (ends : Ends B) (d : Demands B) where
+  module _ (list rows : List ℕ) (words : Words 32 list) (fine : buildInto fiveWords 32 list rows .answer .number ≡ 0) where
+    abbrev built : Outcome Reply
+    built = ends .table-build list rows .0
+
+    built-done : built .answer .number ≡ 0
+    built-done =
+        demand-1-decides .table-build list rows _ _ _ _ (d .one .table-build list rows built (ends .table-build list rows .1) .exact)
+        (build-refuses 32 list rows .exact) .0
+        ∙ fine
+
+    abbrev found : (x : Reply) × B .table-lookup (built .lent) (result (built .answer)) 0 x
+    found = ends .table-lookup (built .lent) (result (built .answer)) 0
+
+    found-scan : (found .0 .number ≡ 0) × (result (found .0) ≡ scanOf 32 (routeAt list) (routeCount list) 0)
+    found-scan = d .two .table list rows built 0 (found .0) words (omega arith) (ends .table-build list rows .1) built-done (found .1)
+
+    fixed-is-scan : (fixed : FixedPort B) → fixed .0 ≡ scanOf 32 (routeAt list) (routeCount list) 0
+    fixed-is-scan fixed =
+        sym (fixed .1 (built .lent) (result (built .answer)) 0 (found .0) (found .1) (found-scan .0)) ∙ found-scan .1
+
+  module _ (list nodes ports : List ℕ) (words : Words 32 list) (fine : buildImage 32 1 list nodes ports .built .number ≡ 0) where
+    abbrev imaged : Imaged
+    imaged = ends .image-build 1 list nodes ports .0
+
+    imaged-done : imaged .reply .number ≡ 0
+    imaged-done =
+        demand-1-decides .image-build 1 list nodes ports _ _ _ _
+        (d .one .image-build 1 list nodes ports imaged (ends .image-build 1 list nodes ports .1) .exact)
+        (image-build-refuses 32 1 list nodes ports .exact) .0
+        ∙ fine
+
+    abbrev seen : (x : Reply) × B .image-lookup 1 (imaged .nodes) (imaged .ports) 0 x
+    seen = ends .image-lookup 1 (imaged .nodes) (imaged .ports) 0
+
+    seen-scan : seen .0 ≡ looked (answered (scanOf 32 (routeAt list) (routeCount list) 0) (passed (listRoutes 32 list) 1 32 [] (bits 32 0) + 1))
+    seen-scan = d .two .image 1 list nodes ports imaged 0 (seen .0) words (omega arith) (ends .image-build 1 list nodes ports .1) imaged-done (seen .1)
+
+    fixed-is-image-scan : (fixed : FixedPortOfImage B) → fixed .0 ≡ scanOf 32 (routeAt list) (routeCount list) 0
+    fixed-is-image-scan fixed =
+        sym (fixed .1 1 (imaged .nodes) (imaged .ports) 0 (seen .0) (seen .1) (ap (λ (x : Reply). x .number) seen-scan)) ∙ ap result seen-scan
+
+no-words : Words 32 []
+no-words i = omega arith
+
+whole-space-words : Words 32 wholeSpace
+whole-space-words zero = omega arith
+whole-space-words (suc zero) = omega arith
+whole-space-words (suc (suc zero)) = omega arith
+whole-space-words (suc (suc (suc i))) = omega arith
+
+no-routes-scanned : scanOf 32 (routeAt []) 0 0 ≡ 0
+unfolding listOf longest plainScan
+no-routes-scanned = refl
+
+whole-space-scanned : scanOf 32 (routeAt wholeSpace) 1 0 ≡ 1
+unfolding listOf longest plainScan
+whole-space-scanned = refl
 
 pub impostors-stopped : ImpostorsStopped
-unfolding portWord
 impostors-stopped = record {
-  refuses-announcements = λ f meets refuses. refuses onFree (ap (λ (o : Outcome Answer). o .answer .number) (meets onFree ∙ announced-free));
-  refuses-withdrawals = λ f meets refuses. refuses onOne (ap (λ (o : Outcome Answer). o .answer .number) (meets onOne ∙ withdrawn-one));
-  fixed-port = λ f meets fixed.
-      omega (arith, one-number lookupCall f meets (λ x. x .port) onFree onOne (found 0 0) (found 1 1) (fixed .0) none-found one-found (fixed .1 onFree) (fixed .1 onOne));
-  fixed-port-of-image = λ f meets fixed.
-      omega (arith, one-number imageLookupCall f meets (λ x. x .port) onImage onOtherPort (found 0 1) (found 1 1) (fixed .0) image-found other-port-found (fixed .1 onImage) (fixed .1 onOtherPort));
-  untouched-by-announcing = λ f meets leaves.
-      omega (arith, ap portWord (sym (leaves onFree) ∙ ap (λ (o : Outcome Answer). o .lent) (meets onFree ∙ announced-free)));
-  untouched-by-withdrawing = λ f meets leaves.
-      omega (arith, ap portWord (sym (leaves onOne) ∙ ap (λ (o : Outcome Answer). o .lent) (meets onOne ∙ withdrawn-one)));
-  first-announcement-only = λ f meets ignores.
-      omega (arith, ap portWord (sym (ignores onOne (omega arith)) ∙ ap (λ (o : Outcome Answer). o .lent) (meets onOne ∙ announced-one)));
-  later-withdrawals-ignored = λ f meets ignores.
-      omega (arith, ap portWord (sym (ignores onOne (omega arith)) ∙ ap (λ (o : Outcome Answer). o .lent) (meets onOne ∙ withdrawn-one)));
-  invented-rows = λ f meets invents.
-      omega (arith, one-number lookupCall f meets (λ x. x .reads) onFree onOne (found 0 0) (found 1 1) (invents .0) none-found one-found (invents .1 onFree) (invents .1 onOne));
-  invented-nodes = λ f meets invents.
-      omega (arith, one-number imageLookupCall f meets (λ x. x .reads) onImage onTwoNodes (found 0 1) (found 0 2) (invents .0) image-found two-nodes-found (invents .1 onImage) (invents .1 onTwoNodes));
-}
-
-pub rows-read-are-path : RowsReadArePath
-rows-read-are-path f meets x S good small =
-    ap (λ (y : Found). y .reads) (meets x ∙ lookup-is-scan 32 (capacity (x .rows)) (rowAt (x .rows)) (x .n) (x .value) S good small)
-
-pub nodes-read-are-passed : NodesReadArePassed
-nodes-read-are-passed f meets x list nodes ports fit small z ns ps =
-    ap (λ (y : Found). y .reads)
-    (meets x ∙ ap₂ (λ (a b : List ℕ). lookupWords 32 (x .stride) a b (x .address)) ns ps
-    ∙ demand-2 .image (x .stride) list nodes ports (x .address) fit small z)
-
--- the runs of no route
-one-run : Lists (scanOf 32 (routeAt []) 0) (2 ^ 32) 0 (run 0 (2 ^ 32 - 1) 0 ∷ [])
-one-run = subst (Lists (scanOf 32 (routeAt []) 0) (2 ^ 32) 0) (listed-none 32 (routeAt [])) (listed-lists 32 (routeAt []) 0)
-
-no-routes-fine : listCheck 32 [] .number ≡ 0
-unfolding listCheck routesCheck firstFault
-no-routes-fine = refl
-
--- a table of no route is in good order, and its listing is the one run
-no-rows-listed : tableRuns 32 0 (rowAt []) 0 (replicate 3 0) ≡ writeRuns (run 0 (2 ^ 32 - 1) 0 ∷ []) (replicate 3 0)
-unfolding tableRuns isGood rowAt storeRow
-no-rows-listed = ap (λ (rs : List Run). writeRuns rs (replicate 3 0)) (listed-none 32 (tableRoutes 32 (rowAt []) 0))
-
-one-run-fits : writeRuns (run 0 (2 ^ 32 - 1) 0 ∷ []) (replicate 3 0) .answer .number ≡ 0
-unfolding writeRuns
-one-run-fits = refl
-
-pub each-accepts : EachAccepts
-unfolding listScan isGood lookupIn buildInto saveInto rowAt storeRow
-each-accepts = record {
-  file-read = (emptyFile, [], ap (λ (o : Outcome Answer). o .answer .number) (empty-file 32 [] .0));
-  file-write = ([], replicate 5 0, ap (λ (o : Outcome Answer). o .answer .number) (empty-file 32 (replicate 5 0) .1 (omega arith)));
-  list-check = ([], no-routes-fine);
-  list-scan = ([], 0, rw no-routes-fine);
-  list-runs = (
-    [],
-    replicate 3 0,
-    ap (λ (o : Outcome Answer). o .answer .number)
-        (list-runs-done 32 [] (replicate 3 0) (run 0 (2 ^ 32 - 1) 0 ∷ []) no-routes-fine one-run (omega arith)),
-  );
-  table-check = ([], 0, refl);
-  table-lookup = (onFree, refl);
-  table-build = ([], [], rw no-routes-fine);
-  table-save = ([], 0, [], refl);
-  table-runs = ([], 0, replicate 3 0, ap (λ (o : Outcome Answer). o .answer .number) no-rows-listed ∙ one-run-fits);
-  image-build = (4, [], replicate 3 0, replicate 16 0, ap (λ (x : Left). x .built .number) eleven);
-  image-lookup = (onImage, ap (λ (x : Found). x .number) image-found);
+  refuses-announcements = λ B ends d refuses. refuses zeros 0 (whole 1) (first B ends d .outcome) (first-may B ends d) (first-accepted B ends d);
+  refuses-withdrawals = λ B ends d refuses.
+      let t = left (first B ends d) in
+      refuses (t .words) (t .count) 0 0 (gone B ends d .outcome) (gone-may B ends d) (gone-accepted B ends d);
+  refuses-lookups = λ B ends d refuses.
+      let b = built B ends d [] [] no-words no-routes-built in
+      let x = found B ends d [] [] no-words no-routes-built in
+      refuses (b .lent) (result (b .answer)) 0 (x .0) (x .1) (found-scan B ends d [] [] no-words no-routes-built .0);
+  fixed-port = λ B ends d fixed.
+      omega (
+        arith,
+        fixed-is-scan B ends d [] [] no-words no-routes-built fixed,
+        no-routes-scanned,
+        fixed-is-scan B ends d wholeSpace zeros whole-space-words whole-space-built fixed,
+        whole-space-scanned,
+      );
+  fixed-port-of-image = λ B ends d fixed.
+      omega (
+        arith,
+        fixed-is-image-scan B ends d [] (replicate 3 0) (replicate 2 0) no-words (ap (λ (x : Left). x .built .number) no-routes-imaged) fixed,
+        no-routes-scanned,
+        fixed-is-image-scan B ends d wholeSpace (replicate 3 0) (replicate 2 0) whole-space-words (ap (λ (x : Left). x .built .number) whole-space-imaged) fixed,
+        whole-space-scanned,
+      );
+  untouched-by-announcing = λ B ends d untouched. later-announced B ends d (λ rows n q o some. untouched rows n q o);
+  untouched-by-withdrawing = λ B ends d untouched. later-withdrawn B ends d (λ rows n value len o some. untouched rows n value len o);
+  first-announcement-only = later-announced;
+  later-withdrawals-ignored = later-withdrawn;
+  invented-rows = λ B ends d x.
+      x .invented (ap readCount (d .three .looked-up (x .rows) (x .steps) (x .address) (x .trie) (x .reply) (x .happened) (x .fits) (x .rule) (x .answers)));
+  invented-nodes = λ B ends d x.
+      x .invented
+      (ap readCount (d .two .image (x .stride) (x .list) (x .nodes) (x .ports) (x .built) (x .address) (x .reply) (x .words) (x .fits) (x .builds) (x .done) (x .answers)));
 }

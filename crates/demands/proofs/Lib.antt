@@ -6,7 +6,11 @@ pub mod OfLists
 pub mod OfTables
 pub mod OfImages
 pub mod Decided
+pub mod Follows
+pub mod Histories
 pub mod Demands
+pub mod Images
+pub mod Accepted
+pub mod Impostors
 pub mod Steps
 pub mod Examples
-pub mod Impostors

@@ -22,7 +22,7 @@ use Rattle.image_build.specs.Build.{Left, left, refusedBuild, doneBuild, listRo
 use Rattle.demands.specs.Lamp.{shows, done}
 use Rattle.demands.specs.Checks.{imageChecks, nodeChecks, imageLookupChecks}
 use Rattle.demands.proofs.Tells.{Tells, tells-as, tells-le, tells-lt, tells-eq, tells-and}
-use Rattle.demands.proofs.Shown.{View, On, on-test, on-whether}
+use Rattle.demands.proofs.Shown.{View, On, looking, on-test, on-whether}
 use Rattle.demands.proofs.Listed.{on-list}
 
 -- "stride not 1, 2 or 4"
@@ -43,9 +43,6 @@ building nodes ports = record {
   place = λ o. o .built .place;
   Kept = λ o. (o .built .nodes ≡ 0) × (o .built .ports ≡ 0) × (o .nodes ≡ nodes) × (o .ports ≡ ports);
 }
-
-abbrev pub searching : View
-searching = record { Seen = Found; number = λ x. x .number; place = λ _. 0; Kept = λ x. x .port ≡ 0 }
 
 refused-on : (nodes ports : List ℕ) (m p : ℕ) → On (building nodes ports) (shows m p) (left (refusedBuild m p) nodes ports)
 refused-on nodes ports m p = record { exact = (refl, refl); kept = λ _. (refl, refl, refl, refl) }
@@ -68,7 +65,7 @@ image-build-refuses w s list nodes ports =
     (record { exact = (refl, refl); kept = λ wrong. absurd (wrong refl) }) (refused-on nodes ports noRoom 0)))
     (refused-on nodes ports wrongStride 0)
 
-lost-on : (m reads : ℕ) → On searching (shows m 0) (lost m reads)
+lost-on : (m reads : ℕ) → On looking (shows m 0) (lost m reads)
 lost-on m reads = record { exact = (refl, refl); kept = λ _. refl }
 
 tells-node : (nodes : List ℕ) (i : ℕ) → Tells (isNode nodes i) ((i ≡ 0) ⊎ (nodeCount nodes < i))
@@ -77,7 +74,7 @@ tells-node nodes i =
     (tells-as (ltb 0 i) (i ≤ 0) (i ≡ 0) (λ h. omega arith) (λ h. omega arith) (tells-lt 0 i)) (tells-le i (nodeCount nodes))
 
 pub nodes-refuse : (s : ℕ) (nodes ports : List ℕ) (a k i reads : ℕ)
-    → On searching (nodeChecks s nodes ports a k i) (walk s nodes ports a k i reads)
+    → On looking (nodeChecks s nodes ports a k i) (walk s nodes ports a k i reads)
 unfolding walk
 nodes-refuse s nodes ports a zero i reads = lost-on notInOrder reads
 nodes-refuse s nodes ports a (suc k) i reads =
@@ -87,13 +84,13 @@ nodes-refuse s nodes ports a (suc k) i reads =
     let port = getD ports leaf 0 in
     let below = walk s nodes ports a k (childAt (2 ^ s) nodes i (addressSlot s a k)) (reads + 1) in
     let slot = cond (eqb bit 1) (leafAt ports leaf (reads + 1)) below in
-    on-test searching (isNode nodes i) _ (tells-node nodes i) notInOrder 0 _
+    on-test looking (isNode nodes i) _ (tells-node nodes i) notInOrder 0 _
     (λ b. cond b (cond (ltb map (2 ^ (2 ^ s))) slot (lost notInOrder (reads + 1))) (lost notInOrder reads))
-    (on-test searching (ltb map (2 ^ (2 ^ s))) _ (tells-lt map (2 ^ (2 ^ s))) notInOrder 0 _ (λ b. cond b slot (lost notInOrder (reads + 1)))
-    (on-whether searching (eqb bit 1) (bit ≡ 1) _ _ (λ b. cond b (leafAt ports leaf (reads + 1)) below) (eqb-true bit 1) (eqb-false bit 1)
-    (on-test searching (ltb leaf (length ports)) _ (tells-lt leaf (length ports)) notInOrder 0 _
+    (on-test looking (ltb map (2 ^ (2 ^ s))) _ (tells-lt map (2 ^ (2 ^ s))) notInOrder 0 _ (λ b. cond b slot (lost notInOrder (reads + 1)))
+    (on-whether looking (eqb bit 1) (bit ≡ 1) _ _ (λ b. cond b (leafAt ports leaf (reads + 1)) below) (eqb-true bit 1) (eqb-false bit 1)
+    (on-test looking (ltb leaf (length ports)) _ (tells-lt leaf (length ports)) notInOrder 0 _
     (λ b. cond b (cond (leb port lastPort) (found port (reads + 1)) (lost notInOrder (reads + 1))) (lost notInOrder (reads + 1)))
-    (on-test searching (leb port lastPort) _ (tells-le port lastPort) notInOrder 0 done
+    (on-test looking (leb port lastPort) _ (tells-le port lastPort) notInOrder 0 done
     (λ b. cond b (found port (reads + 1)) (lost notInOrder (reads + 1)))
     (record { exact = (refl, refl); kept = λ wrong. absurd (wrong refl) }) (lost-on notInOrder (reads + 1)))
     (lost-on notInOrder (reads + 1)))
@@ -101,8 +98,8 @@ nodes-refuse s nodes ports a (suc k) i reads =
     (lost-on notInOrder (reads + 1)))
     (lost-on notInOrder reads)
 
-pub image-lookup-refuses : (w s : ℕ) (nodes ports : List ℕ) (a : ℕ) → On searching (imageLookupChecks w s nodes ports a) (lookupWords w s nodes ports a)
+pub image-lookup-refuses : (w s : ℕ) (nodes ports : List ℕ) (a : ℕ) → On looking (imageLookupChecks w s nodes ports a) (lookupWords w s nodes ports a)
 unfolding lookupWords
 image-lookup-refuses w s nodes ports a =
-    on-test searching (isStride s) _ (tells-stride s) wrongStride 0 _ (λ b. cond b (walk s nodes ports a (w / s) 1 0) (lost wrongStride 0))
+    on-test looking (isStride s) _ (tells-stride s) wrongStride 0 _ (λ b. cond b (walk s nodes ports a (w / s) 1 0) (lost wrongStride 0))
     (nodes-refuse s nodes ports a (w / s) 1 0) (lost-on wrongStride 0)

@@ -20,9 +20,8 @@ use Rattle.runs_rules.specs.Runs.{Run, runWords}
 use Rattle.runs_rules.specs.Listing.{listed, mostRuns, writeRuns, listRuns}
 use Rattle.demands.specs.Lamp.{shows, done}
 use Rattle.demands.specs.Checks.{listChecks, roomFor, readChecks, writeChecks, runsChecks, listRunsChecks}
-use Rattle.demands.specs.Demands.{Refuses, RefusesOnly}
 use Rattle.demands.proofs.Tells.{tells-as, tells-le}
-use Rattle.demands.proofs.Shown.{On, alone, writing, on-accepted, on-refused, on-test}
+use Rattle.demands.proofs.Shown.{On, Refuses, RefusesOnly, alone, writing, on-accepted, on-refused, on-test}
 use Rattle.demands.proofs.Listed.{on-list, on-file}
 
 -- a refusal of the checks, in a call that goes on only where they accept

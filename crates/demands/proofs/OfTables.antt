@@ -34,9 +34,8 @@ use Rattle.runs_rules.specs.Listing.{listed, writeRuns}
 use Rattle.table_runs.specs.TableRuns.{tableRoutes, tableRuns}
 use Rattle.demands.specs.Lamp.{Verdict, shows, done, refuse}
 use Rattle.demands.specs.Checks.{prefixChecks, roomFor, orderChecks, NotHeld, announceChecks, withdrawChecks, buildChecks, saveChecks, rowChecks, lookupChecks, runsChecks, tableRunsChecks}
-use Rattle.demands.specs.Demands.{Refuses, RefusesOnly}
 use Rattle.demands.proofs.Tells.{Tells, tells-itself, tells-le, tells-lt, tells-port}
-use Rattle.demands.proofs.Shown.{View, On, alone, writing, on-accepted, on-refused, on-test, on-test-then, on-unless-then, on-whether}
+use Rattle.demands.proofs.Shown.{View, On, Refuses, RefusesOnly, alone, looking, writing, on-accepted, on-refused, on-test, on-test-then, on-unless-then, on-whether}
 use Rattle.demands.proofs.Listed.{on-list}
 use Rattle.demands.proofs.OfLists.{refusal-on, room-on, runs-on}
 
@@ -173,10 +172,6 @@ withdraw-refuses w rows n value len fits =
     (on-accepted n rows (n - 1) (withdrawn fiveWords w rows n q)) (kept-on rows n notHeld))
     (kept-on rows n notInOrder))
     (fault-on rows n next)
-
--- the answer of a lookup: its place is 0, and refused, so is its port
-abbrev looking : View
-looking = record { Seen = Found; number = λ x. x .number; place = λ _. 0; Kept = λ x. x .port ≡ 0 }
 
 found-on : (port reads : ℕ) → On looking done (found port reads)
 found-on port reads = record { exact = (refl, refl); kept = λ wrong. absurd (wrong refl) }

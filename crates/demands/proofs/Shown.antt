@@ -7,6 +7,7 @@ use Prim.Native.Nat.{ℕ}
 use Rattle.promise.specs.Over.{Outcome, outcome}
 use Rattle.refusals.specs.Refusals.{unless, refused, accepted}
 use Rattle.refusals.specs.declared.Answer.{Answer}
+use Rattle.refusals.specs.declared.found.Found.{Found}
 use Rattle.demands.specs.Lamp.{Verdict, shows, done, whether, refuse, Lamp}
 use Rattle.demands.proofs.Tells.{Tells}
 
@@ -20,7 +21,7 @@ pub record View : Type 1 where
 abbrev pub On : (v : View) → Verdict → v .Seen → Type 0
 On v checks x = Lamp checks (v .number x) (v .place x) (v .Kept x)
 
--- the two views of the demands: an answer alone, and with the memory that was lent
+-- the views of the demands: an answer alone, and with the memory that was lent
 abbrev pub alone : View
 alone = record { Seen = Answer; number = λ x. x .number; place = λ x. x .place; Kept = λ x. x .count ≡ 0 }
 
@@ -31,6 +32,18 @@ writing count lent = record {
   place = λ o. o .answer .place;
   Kept = λ o. (o .answer .count ≡ count) × (o .lent ≡ lent);
 }
+
+-- the answer of a lookup: its place is 0, and refused, so is its port
+abbrev pub looking : View
+looking = record { Seen = Found; number = λ x. x .number; place = λ _. 0; Kept = λ x. x .port ≡ 0 }
+
+-- a call that answers a count: refused, that is as said, and no lent memory is written
+abbrev pub Refuses : Verdict → ℕ → List ℕ → Outcome Answer → Type 0
+Refuses checks count lent o = On (writing count lent) checks o
+
+-- a call that is lent nothing to write
+abbrev pub RefusesOnly : Verdict → Answer → Type 0
+RefusesOnly checks x = On alone checks x
 
 pub on-accepted : (count : ℕ) (lent : List ℕ) (n : ℕ) (words : List ℕ) → On (writing count lent) done (outcome (accepted n) words)
 on-accepted count lent n words = record { exact = (refl, refl); kept = λ wrong. absurd (wrong refl) }

@@ -1,83 +1,89 @@
--- States the three demands over what the promises of the public functions say, at 32 bits. That a call ends is no statement here: the
--- checker accepts no function that might not. Proofs are in proofs/. Assumes nothing.
+-- States the three demands, of any boundary at 32 bits. Proofs are in proofs/. Assumes nothing.
 use mathlib.Core.Path.{_≡_}
-use mathlib.Core.List.{List, []}
+use mathlib.Core.Logic.{_⊎_}
+use mathlib.Core.List.{List, [], _∷_}
 use Prim.Native.Nat.{ℕ, _+_, _*_, _/_, _^_, _≤_, _<_}
 use lib.ListN.{length, take}
 use Rattle.promise.specs.Over.{Outcome, outcome, over}
 use Rattle.bits.specs.Bits.{bits}
-use Rattle.trie.specs.Routes.{Routes}
 use Rattle.trie.specs.Scan.{scan}
-use Rattle.trie.specs.Trie.{reads}
+use Rattle.trie.specs.Trie.{Trie, IsTrie, reads}
 use Rattle.refusals.specs.Refusals.{accepted, found}
-use Rattle.routes.specs.Routes.{routeAt, routeCount, Words}
-use Rattle.routes.specs.Check.{listCheck}
-use Rattle.routes.specs.Scan.{scanOf, listScan}
-use Rattle.refusals.specs.declared.Answer.{Answer}
+use Rattle.refusals.specs.Reply.{Reply, counted, looked, replied}
+use Rattle.routes.specs.Routes.{routeAt, routeCount, wordsOf, Words}
+use Rattle.routes.specs.Scan.{scanOf}
 use Rattle.routes.specs.declared.Route.{Route}
 use Rattle.file_rules.specs.Bytes.{Bytes}
-use Rattle.file_rules.specs.Calls.{readFile, writeFile}
-use Rattle.table_rows.specs.Words.{capacity, rowAt, fiveWords}
+use Rattle.table_rows.specs.Words.{capacity, rowAt}
 use Rattle.table_rules.specs.Holds.{GoodFor}
-use Rattle.table_rules.specs.Lookup.{lookupIn}
-use Rattle.table_rules.specs.Save.{saveInto}
-use Rattle.table_lookup.specs.Good.{tableCheck}
-use Rattle.table_update.specs.Calls.{announceInto, withdrawInto, buildInto}
-use Rattle.table_update.specs.History.{Call, Table, ran, portAfter, AllFit}
+use Rattle.table_rules.specs.RowsRead.{RowsRead}
+use Rattle.table_rules.specs.Theorems.{SavedWell}
+use Rattle.table_update.specs.History.{Table}
 use Rattle.image_rules.specs.Image.{passed}
-use Rattle.image_rules.specs.Lookup.{lookupWords}
-use Rattle.image_build.specs.Build as build
-use Rattle.image_build.specs.Build.{Left, buildImage}
-use Rattle.runs_rules.specs.Runs.{Run, Lists, runWords}
-use Rattle.runs_rules.specs.Listing.{listRuns}
-use Rattle.table_runs.specs.TableRuns.{tableRuns}
+use Rattle.image_rules.specs.NodesRead.{ReadsAndNumber}
+use Rattle.image_build.specs.Build.{listRoutes}
+use Rattle.runs_rules.specs.Runs.{Run, runWords}
+use Rattle.runs_rules.specs.Maximal.{NamesMaximal}
+use Rattle.maftehon.specs.Reply.{Imaged}
 use Rattle.demands.specs.Lamp.{Verdict, done, Lamp, Decides}
 use Rattle.demands.specs.Checks.{listChecks, readChecks, writeChecks, orderChecks, announceChecks, withdrawChecks, buildChecks, saveChecks, lookupChecks, imageChecks, imageLookupChecks, listRunsChecks, tableRunsChecks}
+use Rattle.demands.specs.Boundary.{Boundary, place, result, readCount}
+use Rattle.demands.specs.History.{Step, Happened, emptyTable, atEnd, heldBy}
 
--- a call that answers a count: refused, that is as said, and no lent memory is written
-abbrev pub Refuses : Verdict → ℕ → List ℕ → Outcome Answer → Type 0
-Refuses checks count lent o =
-    Lamp checks (o .answer .number) (o .answer .place) ((o .answer .count ≡ count) × (o .lent ≡ lent))
+-- a call that is refused as its checks say stores the place and these results
+abbrev pub Refuses : Verdict → List ℕ → Reply → Type 0
+Refuses checks results x = Lamp checks (x .number) (place x) (x .answer ≡ place x ∷ results)
 
--- a call that is lent nothing to write
-abbrev pub RefusesOnly : Verdict → Answer → Type 0
-RefusesOnly checks x = Lamp checks (x .number) (x .place) (x .count ≡ 0)
+-- and leaves the lent memory as it was
+abbrev pub RefusesWhole : Verdict → List ℕ → List ℕ → Outcome Reply → Type 0
+RefusesWhole checks results lent o =
+    Lamp checks (o .answer .number) (place (o .answer)) ((o .answer .answer ≡ place (o .answer) ∷ results) × (o .lent ≡ lent))
 
 -- DEMAND 1. "Every call ends, on whatever route file, list, table or image it is lent, and checks all of it that it uses. A refusal
 -- carries a number and a place from the published list, is given exactly in the listed case, and writes nothing." For every call of
--- the C boundary, and every word and byte that it may be lent.
-pub record Demand1 : Type 0 where
-  pub file-read : (file list : List ℕ) → Refuses (readChecks 32 file list) 0 list (readFile 32 file list)
-  pub file-write : (list file : List ℕ) → Refuses (writeChecks 32 list file) 0 file (writeFile 32 list file)
-  pub list-check : (list : List ℕ) → RefusesOnly (listChecks 32 list done) (listCheck 32 list)
-  pub list-scan : (list : List ℕ) (a : ℕ) → RefusesOnly (listChecks 32 list done) (listScan 32 list a)
-  pub list-runs : (list runs : List ℕ) → Refuses (listRunsChecks 32 list runs) 0 runs (listRuns 32 list runs)
-  pub table-check : (rows : List ℕ) (n : ℕ) → RefusesOnly (orderChecks 32 rows n done) (tableCheck 32 (capacity rows) (rowAt rows) n)
+-- the boundary, every word and byte that it may be lent, and every outcome that it may have.
+pub record Demand1 (B : Boundary) : Type 0 where
+  pub file-read :
+      (file list : List ℕ) (o : Outcome Reply) → B .file-read file list o → RefusesWhole (readChecks 32 file list) (0 ∷ []) list o
+  pub file-write :
+      (list file : List ℕ) (o : Outcome Reply) → B .file-write list file o → RefusesWhole (writeChecks 32 list file) (0 ∷ []) file o
+  pub list-check : (list : List ℕ) (x : Reply) → B .list-check list x → Refuses (listChecks 32 list done) [] x
+  pub list-scan : (list : List ℕ) (a : ℕ) (x : Reply) → B .list-scan list a x → Refuses (listChecks 32 list done) (0 ∷ []) x
+  pub list-runs :
+      (list runs : List ℕ) (o : Outcome Reply) → B .list-runs list runs o → RefusesWhole (listRunsChecks 32 list runs) (0 ∷ []) runs o
+  pub table-check : (rows : List ℕ) (n : ℕ) (x : Reply) → B .table-check rows n x → Refuses (orderChecks 32 rows n done) [] x
   pub table-lookup :
-      (rows : List ℕ) (n a : ℕ)
-      → Lamp (lookupChecks 32 rows n a) (lookupIn 32 (capacity rows) (rowAt rows) n a .number) 0
-      (lookupIn 32 (capacity rows) (rowAt rows) n a .port ≡ 0)
+      (rows : List ℕ) (n a : ℕ) (x : Reply) → B .table-lookup rows n a x → Refuses (lookupChecks 32 rows n a) (0 ∷ readCount x ∷ []) x
+  -- "for a lookup the rows ... read so far"
+  pub table-reads :
+      (rows : List ℕ) (n a : ℕ) (x : Reply) → B .table-lookup rows n a x
+      → (0 < n → n ≤ capacity rows → RowsRead 32 (rowAt rows) n a (readCount x) (x .number))
+      × ((n ≡ 0) ⊎ (capacity rows < n) → readCount x ≡ 0)
   pub table-announce :
-      (rows : List ℕ) (n : ℕ) (q : Route) → q .value < 2 ^ 32
-      → Refuses (announceChecks 32 rows n q) n rows (announceInto fiveWords 32 rows n q)
+      (rows : List ℕ) (n : ℕ) (q : Route) (o : Outcome Reply) → q .value < 2 ^ 32 → B .table-announce rows n q o
+      → RefusesWhole (announceChecks 32 rows n q) (n ∷ []) rows o
   pub table-withdraw :
-      (rows : List ℕ) (n value len : ℕ) → value < 2 ^ 32
-      → Refuses (withdrawChecks 32 rows n value len) n rows (withdrawInto fiveWords 32 rows n value len)
-  pub table-build : (list rows : List ℕ) → Refuses (buildChecks 32 list rows) 0 rows (buildInto fiveWords 32 list rows)
+      (rows : List ℕ) (n value len : ℕ) (o : Outcome Reply) → value < 2 ^ 32 → B .table-withdraw rows n value len o
+      → RefusesWhole (withdrawChecks 32 rows n value len) (n ∷ []) rows o
+  pub table-build :
+      (list rows : List ℕ) (o : Outcome Reply) → B .table-build list rows o → RefusesWhole (buildChecks 32 list rows) (0 ∷ []) rows o
   pub table-save :
-      (rows : List ℕ) (n : ℕ) (list : List ℕ)
-      → Refuses (saveChecks 32 rows n list) 0 list (saveInto 32 (capacity rows) (rowAt rows) n list)
+      (rows : List ℕ) (n : ℕ) (list : List ℕ) (o : Outcome Reply) → B .table-save rows n list o
+      → RefusesWhole (saveChecks 32 rows n list) (0 ∷ []) list o
   pub table-runs :
-      (rows : List ℕ) (n : ℕ) (runs : List ℕ)
-      → Refuses (tableRunsChecks 32 rows n runs) 0 runs (tableRuns 32 (capacity rows) (rowAt rows) n runs)
+      (rows : List ℕ) (n : ℕ) (runs : List ℕ) (o : Outcome Reply) → B .table-runs rows n runs o
+      → RefusesWhole (tableRunsChecks 32 rows n runs) (0 ∷ []) runs o
   pub image-build :
-      (s : ℕ) (list nodes ports : List ℕ)
-      → let o : Left = buildImage 32 s list nodes ports in
-      Lamp (imageChecks 32 s list nodes ports) (o .built .number) (o .built .place)
-      ((o .built .nodes ≡ 0) × (o .built .ports ≡ 0) × (o .nodes ≡ nodes) × (o .ports ≡ ports))
+      (s : ℕ) (list nodes ports : List ℕ) (x : Imaged) → B .image-build s list nodes ports x
+      → Lamp (imageChecks 32 s list nodes ports) (x .reply .number) (place (x .reply))
+      ((x .reply .answer ≡ place (x .reply) ∷ 0 ∷ 0 ∷ []) × (x .nodes ≡ nodes) × (x .ports ≡ ports))
   pub image-lookup :
-      (s : ℕ) (nodes ports : List ℕ) (a : ℕ)
-      → Lamp (imageLookupChecks 32 s nodes ports a) (lookupWords 32 s nodes ports a .number) 0 (lookupWords 32 s nodes ports a .port ≡ 0)
+      (s : ℕ) (nodes ports : List ℕ) (a : ℕ) (x : Reply) → B .image-lookup s nodes ports a x
+      → Refuses (imageLookupChecks 32 s nodes ports a) (0 ∷ readCount x ∷ []) x
+  -- "or nodes read so far"
+  pub image-reads :
+      (s : ℕ) (nodes ports : List ℕ) (a : ℕ) (x : Reply) → B .image-lookup s nodes ports a x
+      → ReadsAndNumber 32 s nodes ports a (readCount x) (x .number)
 
 -- "exactly in the listed case": the checks of a call leave no choice, so that no other number or place would do
 pub record Demand1Decides : Type 0 where
@@ -96,61 +102,72 @@ pub record Demand1Decides : Type 0 where
   pub image-lookup : (s : ℕ) (nodes ports : List ℕ) (a : ℕ) → Decides (imageLookupChecks 32 s nodes ports a)
 
 -- DEMAND 2. "Both tries, built from a valid list, give for each of the 2^32 addresses the port that a plain scan gives (longest match,
--- RFC 4632; 0 if none)." A build that is done had a valid list, by demand 1. Stronger: what else the memory lent holds does not
--- matter, and the nodes read are told too.
+-- RFC 4632; 0 if none)." A build that returned 0 had a valid list, by demand 1; the lookup is handed what the build left. Stronger:
+-- what else the memory lent holds does not matter, and the nodes read are told too.
 -- "Reading a written file returns the same routes; writing what was read returns the same bytes." All of them, and their number.
-pub record Demand2 : Type 0 where
+pub record Demand2 (B : Boundary) : Type 0 where
+  pub scanned :
+      (list : List ℕ) (a : ℕ) (x : Reply) → B .list-scan list a x → x .number ≡ 0
+      → x ≡ counted (accepted (scanOf 32 (routeAt list) (routeCount list) a))
   pub table :
-      (list rows : List ℕ) (a : ℕ) → Words 32 list → a < 2 ^ 32 → buildInto fiveWords 32 list rows .answer .number ≡ 0
-      → let built : Outcome Answer = buildInto fiveWords 32 list rows in
-      (lookupIn 32 (capacity (built .lent)) (rowAt (built .lent)) (built .answer .count) a .number ≡ 0)
-      × (lookupIn 32 (capacity (built .lent)) (rowAt (built .lent)) (built .answer .count) a .port ≡ scanOf 32 (routeAt list) (routeCount list) a)
+      (list rows : List ℕ) (b : Outcome Reply) (a : ℕ) (x : Reply) → Words 32 list → a < 2 ^ 32
+      → B .table-build list rows b → b .answer .number ≡ 0 → B .table-lookup (b .lent) (result (b .answer)) a x
+      → (x .number ≡ 0) × (result x ≡ scanOf 32 (routeAt list) (routeCount list) a)
   pub image :
-      (s : ℕ) (list nodes ports : List ℕ) (a : ℕ) → Words 32 list → a < 2 ^ 32 → buildImage 32 s list nodes ports .built .number ≡ 0
-      → let built : Left = buildImage 32 s list nodes ports in
-      lookupWords 32 s (built .nodes) (built .ports) a
-      ≡ found (scanOf 32 (routeAt list) (routeCount list) a) (passed (build.listRoutes 32 list) s (32 / s) [] (bits 32 a) + 1)
+      (s : ℕ) (list nodes ports : List ℕ) (b : Imaged) (a : ℕ) (x : Reply) → Words 32 list → a < 2 ^ 32
+      → B .image-build s list nodes ports b → b .reply .number ≡ 0 → B .image-lookup s (b .nodes) (b .ports) a x
+      → x ≡ looked (found (scanOf 32 (routeAt list) (routeCount list) a) (passed (listRoutes 32 list) s (32 / s) [] (bits 32 a) + 1))
   pub read-written :
-      (list file lent : List ℕ) → Words 32 list → writeFile 32 list file .answer .number ≡ 0 → length list ≤ length lent
-      → readFile 32 (take (writeFile 32 list file .answer .count) (writeFile 32 list file .lent)) lent
-      ≡ outcome (accepted (routeCount list)) (over list lent)
+      (list file lent : List ℕ) (written o : Outcome Reply) → Words 32 list → length list ≤ length lent
+      → B .file-write list file written → written .answer .number ≡ 0
+      → B .file-read (take (result (written .answer)) (written .lent)) lent o
+      → o ≡ replied (outcome (accepted (routeCount list)) (over list lent))
   pub write-read :
-      (file list lent : List ℕ) → Bytes file → readFile 32 file list .answer .number ≡ 0 → length file ≤ length lent
-      → writeFile 32 (take (readFile 32 file list .answer .count * 3) (readFile 32 file list .lent)) lent
-      ≡ outcome (accepted (length file)) (over file lent)
-
--- a table that nothing has been announced to, in any rows
-abbrev pub emptyTable : List ℕ → Table
-emptyTable rows = record { words = rows; count = 0 }
-
--- the set of routes after the calls: "for each prefix those of its last accepted call if that was an announcement"
-abbrev pub heldAfter : List ℕ → List Call → Routes
-heldAfter rows calls q = portAfter fiveWords 32 (emptyTable rows) calls q 0
+      (file list lent : List ℕ) (got o : Outcome Reply) → Bytes file → length file ≤ length lent
+      → B .file-read file list got → got .answer .number ≡ 0
+      → B .file-write (take (result (got .answer) * 3) (got .lent)) lent o
+      → o ≡ replied (outcome (accepted (length file)) (over file lent))
 
 -- DEMAND 3. "From an empty table, after any sequence of announcements and withdrawals, some refused, the routes held are for each
 -- prefix those of its last accepted call if that was an announcement; the run listing names every maximal run of addresses that
--- goes to one port, once, in order, and nothing else." Stronger: the table is in good order throughout, and a lookup on it gives the
--- plain scan's port of the routes held and reads as many rows as the path in the trie has.
-pub record Demand3 : Type 0 where
+-- goes to one port, once, in order, and nothing else." Given room, port 0 included, and in address order. Stronger: the table is in
+-- good order throughout, a lookup on it gives the plain scan's port of the routes held and reads as many rows as the path in their
+-- trie has, and a save writes them.
+pub record Demand3 (B : Boundary) : Type 0 where
   pub held :
-      (rows : List ℕ) (calls : List Call) → AllFit 32 calls
-      → let t : Table = ran fiveWords 32 (emptyTable rows) calls in
-      GoodFor 32 (capacity (t .words)) (rowAt (t .words)) (t .count) (heldAfter rows calls)
+      (rows : List ℕ) (steps : List Step) → Happened B (emptyTable rows) steps
+      → let t : Table = atEnd (emptyTable rows) steps in
+      GoodFor 32 (capacity (t .words)) (rowAt (t .words)) (t .count) (heldBy steps)
   pub looked-up :
-      (rows : List ℕ) (calls : List Call) (fit : AllFit 32 calls) (a : ℕ) → a < 2 ^ 32
-      → let t : Table = ran fiveWords 32 (emptyTable rows) calls in
-      lookupIn 32 (capacity (t .words)) (rowAt (t .words)) (t .count) a
-      ≡ found (scan (heldAfter rows calls) (bits 32 a)) (reads (held rows calls fit .placed .trie) (bits 32 a))
+      (rows : List ℕ) (steps : List Step) (a : ℕ) (trie : Trie) (x : Reply) → Happened B (emptyTable rows) steps → a < 2 ^ 32
+      → IsTrie trie (heldBy steps)
+      → let t : Table = atEnd (emptyTable rows) steps in
+      B .table-lookup (t .words) (t .count) a x → x ≡ looked (found (scan (heldBy steps) (bits 32 a)) (reads trie (bits 32 a)))
+  -- a save writes the one valid list of these routes
+  pub saved :
+      (rows : List ℕ) (steps : List Step) (lent : List ℕ) (o : Outcome Reply) → Happened B (emptyTable rows) steps
+      → let t : Table = atEnd (emptyTable rows) steps in
+      t .count * 3 ≤ length lent → B .table-save (t .words) (t .count) lent o
+      → (rs : List Route) × SavedWell 32 rs (t .count) (heldBy steps)
+      × (o ≡ replied (outcome (accepted (t .count)) (over (wordsOf rs) lent)))
   pub listed :
-      (rows : List ℕ) (calls : List Call) (lent : List ℕ) (rs : List Run) → AllFit 32 calls
-      → Lists (λ a. scan (heldAfter rows calls) (bits 32 a)) (2 ^ 32) 0 rs → length rs * 3 ≤ length lent
-      → let t : Table = ran fiveWords 32 (emptyTable rows) calls in
-      tableRuns 32 (capacity (t .words)) (rowAt (t .words)) (t .count) lent ≡ outcome (accepted (length rs)) (over (runWords rs) lent)
+      (rows : List ℕ) (steps : List Step) (lent : List ℕ) (rs : List Run) (o : Outcome Reply) → Happened B (emptyTable rows) steps
+      → NamesMaximal (λ a. scan (heldBy steps) (bits 32 a)) (2 ^ 32) rs → length rs * 3 ≤ length lent
+      → let t : Table = atEnd (emptyTable rows) steps in
+      B .table-runs (t .words) (t .count) lent o → o ≡ replied (outcome (accepted (length rs)) (over (runWords rs) lent))
   pub listed-list :
-      (list lent : List ℕ) (rs : List Run) → listCheck 32 list .number ≡ 0
-      → Lists (scanOf 32 (routeAt list) (routeCount list)) (2 ^ 32) 0 rs → length rs * 3 ≤ length lent
-      → listRuns 32 list lent ≡ outcome (accepted (length rs)) (over (runWords rs) lent)
-  -- and there is just one such listing of any port of an address
-  pub one-listing :
-      (f : ℕ → ℕ) → ((rs : List Run) × Lists f (2 ^ 32) 0 rs)
-      × ((rs qs : List Run) → Lists f (2 ^ 32) 0 rs → Lists f (2 ^ 32) 0 qs → rs ≡ qs)
+      (list lent : List ℕ) (rs : List Run) (x : Reply) (o : Outcome Reply) → B .list-check list x → x .number ≡ 0
+      → NamesMaximal (scanOf 32 (routeAt list) (routeCount list)) (2 ^ 32) rs → length rs * 3 ≤ length lent
+      → B .list-runs list lent o → o ≡ replied (outcome (accepted (length rs)) (over (runWords rs) lent))
+
+-- of any port of an address there is one listing, and no other
+abbrev pub OneListing : Type 0
+OneListing =
+    (f : ℕ → ℕ) → ((rs : List Run) × NamesMaximal f (2 ^ 32) rs)
+    × ((rs qs : List Run) → NamesMaximal f (2 ^ 32) rs → NamesMaximal f (2 ^ 32) qs → rs ≡ qs)
+
+-- THE DEMANDS of a boundary
+pub record Demands (B : Boundary) : Type 0 where
+  pub one : Demand1 B
+  pub two : Demand2 B
+  pub three : Demand3 B

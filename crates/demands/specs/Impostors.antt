@@ -1,123 +1,128 @@
--- States that no function which meets its promise is one of the five impostors: RULES, "Promises". Assumes
--- nothing.
+-- States that no boundary whose calls end and that meets the demands is one of the five impostors: RULES, "Promises". Nothing else is
+-- known of the boundary; what is accepted is what its own calls return. Assumes nothing.
 use mathlib.Core.Path.{_≡_}
-use mathlib.Core.List.{List, [], _∷_, _++_}
+use mathlib.Core.List.{List, []}
 use Prim.Native.Nat.{ℕ, _+_, _/_, _^_, _<_}
 use Rattle.promise.specs.Over.{Outcome}
 use Rattle.bits.specs.Bits.{bits}
-use Rattle.trie.specs.Routes.{Routes}
-use Rattle.trie.specs.Trie.{reads}
-use Rattle.routes.specs.Routes.{route, Words}
-use Rattle.routes.specs.Check.{listCheck}
-use Rattle.routes.specs.Scan.{listScan}
-use Rattle.refusals.specs.declared.Answer.{Answer}
-use Rattle.file_rules.specs.Calls.{readFile, writeFile}
-use Rattle.table_rows.specs.Words.{capacity, rowAt, fiveWords}
-use Rattle.table_rules.specs.Holds.{GoodFor}
-use Rattle.table_rules.specs.Lookup.{lookupIn}
-use Rattle.table_rules.specs.Save.{saveInto}
-use Rattle.refusals.specs.declared.found.Found.{Found}
-use Rattle.table_lookup.specs.Good.{tableCheck}
-use Rattle.table_update.specs.Calls.{announceInto, withdrawInto, buildInto}
+use Rattle.trie.specs.Trie.{Trie, IsTrie, reads}
+use Rattle.refusals.specs.Reply.{Reply}
+use Rattle.routes.specs.Routes.{Words}
+use Rattle.routes.specs.declared.Route.{Route}
+use Rattle.table_update.specs.History.{Table}
 use Rattle.image_rules.specs.Image.{passed}
-use Rattle.image_rules.specs.Lookup.{lookupWords}
-use Rattle.image_build.specs.Build.{listRoutes, buildImage}
-use Rattle.runs_rules.specs.Listing.{listRuns}
-use Rattle.table_runs.specs.TableRuns.{tableRuns}
+use Rattle.image_build.specs.Build.{listRoutes}
+use Rattle.maftehon.specs.Reply.{Imaged}
+use Rattle.demands.specs.Boundary.{Boundary, result, readCount, Ends}
+use Rattle.demands.specs.History.{Step, Happened, emptyTable, atEnd, heldBy}
+use Rattle.demands.specs.Demands.{Demand1, Demands}
 
--- what a call on a table, or on an image, is handed; every number is a word of 32 bits
-pub record TableCall : Type 0 where
+abbrev pub Stopped : (Boundary → Type 0) → Type 1
+Stopped Impostor = (B : Boundary) → Ends B → Demands B → Impostor B → ⊥
+
+-- "One refuses everything": here, every announcement, or every withdrawal, or every lookup
+abbrev pub RefusesAnnouncements : Boundary → Type 0
+RefusesAnnouncements B =
+    (rows : List ℕ) (n : ℕ) (q : Route) (o : Outcome Reply) → B .table-announce rows n q o → o .answer .number ≡ 0 → ⊥
+
+abbrev pub RefusesWithdrawals : Boundary → Type 0
+RefusesWithdrawals B =
+    (rows : List ℕ) (n value len : ℕ) (o : Outcome Reply) → B .table-withdraw rows n value len o → o .answer .number ≡ 0 → ⊥
+
+abbrev pub RefusesLookups : Boundary → Type 0
+RefusesLookups B = (rows : List ℕ) (n a : ℕ) (x : Reply) → B .table-lookup rows n a x → x .number ≡ 0 → ⊥
+
+-- "One answers a fixed port", where it answers one at all
+abbrev pub FixedPort : Boundary → Type 0
+FixedPort B = (port : ℕ) × ((rows : List ℕ) (n a : ℕ) (x : Reply) → B .table-lookup rows n a x → x .number ≡ 0 → result x ≡ port)
+
+abbrev pub FixedPortOfImage : Boundary → Type 0
+FixedPortOfImage B =
+    (port : ℕ)
+    × ((s : ℕ) (nodes ports : List ℕ) (a : ℕ) (x : Reply) → B .image-lookup s nodes ports a x → x .number ≡ 0 → result x ≡ port)
+
+-- "one takes the first announcement and ignores the later calls": what it accepts leaves the rows as they were, whatever it says of n
+abbrev pub IgnoresAnnouncements : Boundary → Type 0
+IgnoresAnnouncements B =
+    (rows : List ℕ) (n : ℕ) (q : Route) (o : Outcome Reply) → 0 < n → B .table-announce rows n q o → o .answer .number ≡ 0
+    → o .lent ≡ rows
+
+-- a withdrawal it accepts leaves the rows and n as they were: with another n, rows past it are no part of the table
+abbrev pub IgnoresWithdrawals : Boundary → Type 0
+IgnoresWithdrawals B =
+    (rows : List ℕ) (n value len : ℕ) (o : Outcome Reply) → 0 < n → B .table-withdraw rows n value len o → o .answer .number ≡ 0
+    → (o .lent ≡ rows) × (result (o .answer) ≡ n)
+
+-- "One leaves the table untouched", the first time too
+abbrev pub UntouchedByAnnouncing : Boundary → Type 0
+UntouchedByAnnouncing B =
+    (rows : List ℕ) (n : ℕ) (q : Route) (o : Outcome Reply) → B .table-announce rows n q o → o .answer .number ≡ 0 → o .lent ≡ rows
+
+abbrev pub UntouchedByWithdrawing : Boundary → Type 0
+UntouchedByWithdrawing B =
+    (rows : List ℕ) (n value len : ℕ) (o : Outcome Reply) → B .table-withdraw rows n value len o → o .answer .number ≡ 0
+    → (o .lent ≡ rows) × (result (o .answer) ≡ n)
+
+-- "One invents its rows read": somewhere it says a number that is not the path's in the trie of the routes held
+pub record InventsRows (B : Boundary) : Type 0 where
   pub rows : List ℕ
-  pub n : ℕ
-  pub value : ℕ
-  pub len : ℕ
-  pub port : ℕ
-  pub fit : Words 32 (n ∷ value ∷ len ∷ port ∷ rows)
+  pub steps : List Step
+  pub happened : Happened B (emptyTable rows) steps
+  pub address : ℕ
+  pub fits : address < 2 ^ 32
+  pub reply : Reply
+  pub answers : let t : Table = atEnd (emptyTable rows) steps in B .table-lookup (t .words) (t .count) address reply
+  pub trie : Trie
+  pub rule : IsTrie trie (heldBy steps)
+  pub invented : readCount reply ≡ reads trie (bits 32 address) → ⊥
 
-pub record ImageCall : Type 0 where
+-- or nodes: a number that is not "one more than the non-leaf slots passed"
+pub record InventsNodes (B : Boundary) : Type 0 where
   pub stride : ℕ
+  pub list : List ℕ
+  pub words : Words 32 list
   pub nodes : List ℕ
   pub ports : List ℕ
+  pub built : Imaged
+  pub builds : B .image-build stride list nodes ports built
+  pub done : built .reply .number ≡ 0
   pub address : ℕ
-  pub fit : Words 32 (stride ∷ address ∷ nodes ++ ports)
+  pub fits : address < 2 ^ 32
+  pub reply : Reply
+  pub answers : B .image-lookup stride (built .nodes) (built .ports) address reply
+  pub invented : readCount reply ≡ passed (listRoutes 32 list) stride (32 / stride) [] (bits 32 address) + 1 → ⊥
 
--- the promises; an address is handed to a lookup as the value
-abbrev pub announceCall : TableCall → Outcome Answer
-announceCall x = announceInto fiveWords 32 (x .rows) (x .n) (route (x .value) (x .len) (x .port))
+pub record ImpostorsStopped : Type 1 where
+  pub refuses-announcements : Stopped RefusesAnnouncements
+  pub refuses-withdrawals : Stopped RefusesWithdrawals
+  pub refuses-lookups : Stopped RefusesLookups
+  pub fixed-port : Stopped FixedPort
+  pub fixed-port-of-image : Stopped FixedPortOfImage
+  pub untouched-by-announcing : Stopped UntouchedByAnnouncing
+  pub untouched-by-withdrawing : Stopped UntouchedByWithdrawing
+  pub first-announcement-only : Stopped IgnoresAnnouncements
+  pub later-withdrawals-ignored : Stopped IgnoresWithdrawals
+  pub invented-rows : Stopped InventsRows
+  pub invented-nodes : Stopped InventsNodes
 
-abbrev pub withdrawCall : TableCall → Outcome Answer
-withdrawCall x = withdrawInto fiveWords 32 (x .rows) (x .n) (x .value) (x .len)
-
-abbrev pub lookupCall : TableCall → Found
-lookupCall x = lookupIn 32 (capacity (x .rows)) (rowAt (x .rows)) (x .n) (x .value)
-
-abbrev pub imageLookupCall : ImageCall → Found
-imageLookupCall x = lookupWords 32 (x .stride) (x .nodes) (x .ports) (x .address)
-
--- no function that answers what the promise says is such an impostor
-abbrev pub Stopped : {X Y : Type 0} → (X → Y) → ((X → Y) → Type 0) → Type 0
-Stopped {X} {Y} promise Impostor = (f : X → Y) → ((x : X) → f x ≡ promise x) → Impostor f → ⊥
-
--- "One refuses everything"
-abbrev pub RefusesEverything : (TableCall → Outcome Answer) → Type 0
-RefusesEverything f = (x : TableCall) → f x .answer .number ≡ 0 → ⊥
-
--- "One answers a fixed port"
-abbrev pub FixedPort : {X Y : Type 0} → (Y → ℕ) → (X → Y) → Type 0
-FixedPort {X} portOf f = (port : ℕ) × ((x : X) → portOf (f x) ≡ port)
-
--- "One leaves the table untouched"
-abbrev pub LeavesUntouched : (TableCall → Outcome Answer) → Type 0
-LeavesUntouched f = (x : TableCall) → f x .lent ≡ x .rows
-
--- "one takes the first announcement and ignores the later calls"
-abbrev pub FirstOnly : (TableCall → Outcome Answer) → Type 0
-FirstOnly f = (x : TableCall) → 0 < x .n → f x .lent ≡ x .rows
-
--- "One invents its rows read": it says a number of its own
-abbrev pub InventsReads : {X Y : Type 0} → (Y → ℕ) → (X → Y) → Type 0
-InventsReads {X} readsOf f = (reads : ℕ) × ((x : X) → readsOf (f x) ≡ reads)
-
-pub record ImpostorsStopped : Type 0 where
-  pub refuses-announcements : Stopped announceCall RefusesEverything
-  pub refuses-withdrawals : Stopped withdrawCall RefusesEverything
-  pub fixed-port : Stopped lookupCall (FixedPort (λ x. x .port))
-  pub fixed-port-of-image : Stopped imageLookupCall (FixedPort (λ x. x .port))
-  pub untouched-by-announcing : Stopped announceCall LeavesUntouched
-  pub untouched-by-withdrawing : Stopped withdrawCall LeavesUntouched
-  pub first-announcement-only : Stopped announceCall FirstOnly
-  pub later-withdrawals-ignored : Stopped withdrawCall FirstOnly
-  pub invented-rows : Stopped lookupCall (InventsReads (λ x. x .reads))
-  pub invented-nodes : Stopped imageLookupCall (InventsReads (λ x. x .reads))
-
--- "the table's exactly when stops it": every other call has something that it accepts, too
-pub record EachAccepts : Type 0 where
-  pub file-read : (file : List ℕ) × (list : List ℕ) × (readFile 32 file list .answer .number ≡ 0)
-  pub file-write : (list : List ℕ) × (file : List ℕ) × (writeFile 32 list file .answer .number ≡ 0)
-  pub list-check : (list : List ℕ) × (listCheck 32 list .number ≡ 0)
-  pub list-scan : (list : List ℕ) × (a : ℕ) × (listScan 32 list a .number ≡ 0)
-  pub list-runs : (list : List ℕ) × (runs : List ℕ) × (listRuns 32 list runs .answer .number ≡ 0)
-  pub table-check : (rows : List ℕ) × (n : ℕ) × (tableCheck 32 (capacity rows) (rowAt rows) n .number ≡ 0)
-  pub table-lookup : (x : TableCall) × (lookupCall x .number ≡ 0)
-  pub table-build : (list : List ℕ) × (rows : List ℕ) × (buildInto fiveWords 32 list rows .answer .number ≡ 0)
-  pub table-save : (rows : List ℕ) × (n : ℕ) × (list : List ℕ) × (saveInto 32 (capacity rows) (rowAt rows) n list .answer .number ≡ 0)
-  pub table-runs : (rows : List ℕ) × (n : ℕ) × (runs : List ℕ) × (tableRuns 32 (capacity rows) (rowAt rows) n runs .answer .number ≡ 0)
+-- "the table's exactly when stops it": by demand 1, each of the other calls is handed something that it may not refuse
+pub record EachAccepts (B : Boundary) : Type 0 where
+  pub file-read : (file : List ℕ) × (list : List ℕ) × ((o : Outcome Reply) → B .file-read file list o → o .answer .number ≡ 0)
+  pub file-write : (list : List ℕ) × (file : List ℕ) × ((o : Outcome Reply) → B .file-write list file o → o .answer .number ≡ 0)
+  pub list-check : (list : List ℕ) × ((x : Reply) → B .list-check list x → x .number ≡ 0)
+  pub list-scan : (list : List ℕ) × (a : ℕ) × ((x : Reply) → B .list-scan list a x → x .number ≡ 0)
+  pub list-runs : (list : List ℕ) × (runs : List ℕ) × ((o : Outcome Reply) → B .list-runs list runs o → o .answer .number ≡ 0)
+  pub table-check : (rows : List ℕ) × (n : ℕ) × ((x : Reply) → B .table-check rows n x → x .number ≡ 0)
+  pub table-build : (list : List ℕ) × (rows : List ℕ) × ((o : Outcome Reply) → B .table-build list rows o → o .answer .number ≡ 0)
+  pub table-save :
+      (rows : List ℕ) × (n : ℕ) × (list : List ℕ) × ((o : Outcome Reply) → B .table-save rows n list o → o .answer .number ≡ 0)
+  pub table-runs :
+      (rows : List ℕ) × (n : ℕ) × (runs : List ℕ) × ((o : Outcome Reply) → B .table-runs rows n runs o → o .answer .number ≡ 0)
   pub image-build :
-      (s : ℕ) × (list : List ℕ) × (nodes : List ℕ) × (ports : List ℕ) × (buildImage 32 s list nodes ports .built .number ≡ 0)
-  pub image-lookup : (x : ImageCall) × (imageLookupCall x .number ≡ 0)
+      (s : ℕ) × (list : List ℕ) × (nodes : List ℕ) × (ports : List ℕ)
+      × ((x : Imaged) → B .image-build s list nodes ports x → x .reply .number ≡ 0)
+  pub image-lookup :
+      (s : ℕ) × (nodes : List ℕ) × (ports : List ℕ) × (a : ℕ) × ((x : Reply) → B .image-lookup s nodes ports a x → x .number ≡ 0)
 
--- "on a table in good order the number equals that of the trie defined above"
-abbrev pub RowsReadArePath : Type 0
-RowsReadArePath =
-    (f : TableCall → Found) → ((x : TableCall) → f x ≡ lookupCall x)
-    → (x : TableCall) (S : Routes) (good : GoodFor 32 (capacity (x .rows)) (rowAt (x .rows)) (x .n) S) → x .value < 2 ^ 32
-    → f x .reads ≡ reads (good .placed .trie) (bits 32 (x .value))
-
--- "on a built image it is one more than the non-leaf slots passed"
-abbrev pub NodesReadArePassed : Type 0
-NodesReadArePassed =
-    (f : ImageCall → Found) → ((x : ImageCall) → f x ≡ imageLookupCall x)
-    → (x : ImageCall) (list nodes ports : List ℕ) → Words 32 list → x .address < 2 ^ 32
-    → buildImage 32 (x .stride) list nodes ports .built .number ≡ 0
-    → x .nodes ≡ buildImage 32 (x .stride) list nodes ports .nodes → x .ports ≡ buildImage 32 (x .stride) list nodes ports .ports
-    → f x .reads ≡ passed (listRoutes 32 list) (x .stride) (32 / x .stride) [] (bits 32 (x .address)) + 1
+abbrev pub NoCallRefusesAll : Type 1
+NoCallRefusesAll = (B : Boundary) → Demand1 B → EachAccepts B

@@ -1,6 +1,9 @@
--- What the whole base is there for, over the promises of its public functions.
+-- What the whole base is there for: the demands of any C boundary, and the library's own.
 pub mod Lamp
 pub mod Checks
+pub mod Boundary
+pub mod Exports
+pub mod History
 pub mod Demands
-pub mod Examples
 pub mod Impostors
+pub mod Examples

@@ -8,6 +8,7 @@ use lib.Pow.{pow-add, mod-pow-add, field, mod-mod-pow, high, low}
 use lib.ListN.{length, take, drop, length-append}
 use lib.Seq.{getD-drop}
 use Rattle.file_rules.specs.Bytes.{number, digits, Bytes}
+use Rattle.file_rules.specs.Theorems.{FewestBytes}
 
 eight : (k : ℕ) → 8 * suc k ≡ 8 + 8 * k
 eight k = omega arith
@@ -78,3 +79,7 @@ digits-number (b ∷ bs) h =
     sym (digits-mod n 0 x) ∙ ap (λ (y : ℕ). digits n (x % 2 ^ y)) z ∙ ap (digits n) (low b (8 * n) l)
     ∙ digits-number bs (λ j. h (suc j)) in
     ap₂ (λ (y : ℕ) (ys : List ℕ). y ∷ ys) (ap (λ (y : ℕ). y % 2 ^ 8) (high b (8 * n) l) ∙ mod-eq-of-lt (h 0)) d
+
+-- the bytes of a prefix
+pub fewest-bytes : FewestBytes
+fewest-bytes len = (omega arith, λ k h. omega arith)

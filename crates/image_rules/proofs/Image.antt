@@ -31,7 +31,7 @@ use Rattle.image_rules.proofs.Slots.{length-slots, Deep, paths-numbered
 use Rattle.image_rules.proofs.Descent.{walked-root}
 
 -- a stride takes off bits, and whole strides make the width
-stride-pos : (s : ℕ) → isStride s ≡ true → 0 < s
+pub stride-pos : (s : ℕ) → isStride s ≡ true → 0 < s
 stride-pos zero t = absurd (true≢false (sym t))
 stride-pos (suc s) t = omega arith
 
@@ -95,7 +95,7 @@ ports-count w s rs st ok =
     mul-pred m (suc n) h = let e : suc n - 1 ≡ n = omega arith in rw e (mul-suc m n)
 
 -- a stored node, by its number less 1
-node-number : (s k : ℕ) (rs : List Route) (a : ℕ) → isNode (imageNodes s k rs) a ≡ true
+pub node-number : (s k : ℕ) (rs : List Route) (a : ℕ) → isNode (imageNodes s k rs) a ≡ true
     → (suc (a - 1) ≡ a) × (a - 1 < length (imagePaths s k rs))
 node-number s k rs a t =
     let b = both (ltb 0 a) (leb a (nodeCount (imageNodes s k rs))) t in
@@ -104,7 +104,7 @@ node-number s k rs a t =
     (omega arith, omega (arith, length-words (slots rs s) 1 2 0 (imagePaths s k rs)))
 
 -- the words of the image alone, for any fact of the words lent
-alone : (P : List ℕ → Type 0) (words : List ℕ) → P (words ++ []) → P words
+pub alone : (P : List ℕ → Type 0) (words : List ℕ) → P (words ++ []) → P words
 alone P words h = subst P (append-nil words) h
 
 module _ (s k : ℕ) (rs : List Route) (a j : ℕ) (t : isNode (imageNodes s k rs) a ≡ true) (l : j < 2 ^ s) where

@@ -10,3 +10,5 @@ pub mod Image
 pub mod Alike
 pub mod Listed
 pub mod Strides
+pub mod Built
+pub mod NodesRead

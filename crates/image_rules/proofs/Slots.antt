@@ -22,6 +22,9 @@ use Rattle.image_rules.proofs.Numbering.{Below, levels-is, first-child-
 use Rattle.image_rules.proofs.Longer.{some-longer→}
 use Rattle.image_rules.proofs.Words.{is-node, bitmap-small, slot-bit-is, leaf-lent, port-is, Numbers, child-numbers}
 
+pub length-slot-bits : (s : ℕ) (q : Bits) (j : ℕ) → length (slotBits s q j) ≡ length q + s
+length-slot-bits s q j = length-append q (bits s j) ∙ ap (λ (n : ℕ). length q + n) (length-bits s j)
+
 module _ (rs : List Route) (s : ℕ) where
   pub length-slots : (q : Bits) → length (slots rs s q) ≡ 2 ^ s
   length-slots q = length-list-of (λ j. slotOf rs (slotBits s q j)) (2 ^ s) 0
@@ -30,9 +33,6 @@ module _ (rs : List Route) (s : ℕ) where
   slot-is q j h =
       getD-list-of (λ i. slotOf rs (slotBits s q i)) (2 ^ s) 0 j (leaf 0) h
       ∙ ap (λ (i : ℕ). slotOf rs (slotBits s q i)) (zero-add j)
-
-  length-slot-bits : (q : Bits) (j : ℕ) → length (slotBits s q j) ≡ length q + s
-  length-slot-bits q j = length-append q (bits s j) ∙ ap (λ (n : ℕ). length q + n) (length-bits s j)
 
   -- a node with k levels left, the last of which ends the address
   module _ (w : ℕ) (short : (r : Route) → List·Memᴰ r rs → length (r .prefix) ≤ w) where
@@ -43,8 +43,8 @@ module _ (rs : List Route) (s : ℕ) where
     pub deep-slot : (k : ℕ) (q : Bits) (j : ℕ) → Deep (suc k) q → someLonger rs (slotBits s q j) ≡ true → Deep k (slotBits s q j)
     deep-slot zero q j d t =
         let l = some-longer→ rs (slotBits s q j) t in
-        absurd (omega (arith, d .0, l .3, short (l .0) (l .1), length-slot-bits q j))
-    deep-slot (suc k) q j d t = (omega (arith, d .0, length-slot-bits q j), omega arith)
+        absurd (omega (arith, d .0, l .3, short (l .0) (l .1), length-slot-bits s q j))
+    deep-slot (suc k) q j d t = (omega (arith, d .0, length-slot-bits s q j), omega arith)
 
     below-slots : (k : ℕ) (q : Bits) → Deep (suc k) q → All (Below Deep k) (slots rs s q)
     below-slots k q d = all-list-of (Below Deep k) (λ j. slotOf rs (slotBits s q j)) (2 ^ s) 0 (λ j. by j (someLonger rs (slotBits s q j)) refl)

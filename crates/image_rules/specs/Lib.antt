@@ -4,3 +4,5 @@ pub mod Breadth
 pub mod Image
 pub mod Lookup
 pub mod Theorems
+pub mod Built
+pub mod NodesRead

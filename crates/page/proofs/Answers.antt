@@ -28,18 +28,18 @@ use Rattle.runs_rules.specs.Runs.{Run, runSize, runWords}
 use Rattle.runs_rules.specs.Listing.{listed, listRuns}
 use Rattle.runs_rules.proofs.Listing.{listed-lists, listed-few, list-runs-done}
 use Rattle.runs_rules.proofs.Same.{words-accepted, words-listed}
-use Rattle.page.specs.Page.{linesOf, header, runsText, refusedText, mostBytes, mostRoutesShown, pageText, pageRoom, pageOf, runAt}
+use Rattle.page.specs.Page.{linesOf, header, runsText, refusedText, mostBytes, mostRoutesShown, mostRunsShown, headerRoom, pageText, pageRoom, pageOf, runAt}
 use Rattle.page.specs.Needs.{Wrote, Lined, Shown}
 use Rattle.page.proofs.Wrote.{wrote-as, wrote-over}
 use Rattle.page.proofs.Lines.{runs-of-words}
 
 -- what the listing of few routes leaves in words that hold it
-module _ (w : ℕ) (list lent : List ℕ) {left out : List ℕ} {a : Answer} (shown : Shown w list out) (size : length lent ≡ 513 * runSize)
+module _ (w : ℕ) (list lent : List ℕ) {left out : List ℕ} {a : Answer} (shown : Shown w list out) (size : length lent ≡ mostRunsShown * runSize)
     (is : outcome a left ≡ listRuns w list lent) where
   abbrev rs : List Run
   rs = listed w (routeAt list) (routeCount list)
 
-  few : length rs ≤ 513
+  few : length rs ≤ mostRunsShown
   few = omega (arith, listed-few w (routeAt list) (routeCount list), shown .few)
 
   done : outcome a left ≡ outcome (accepted (length rs)) (over (runWords rs) lent)
@@ -52,7 +52,7 @@ module _ (w : ℕ) (list lent : List ℕ) {left out : List ℕ} {a : Answer} (sh
   left-is : left ≡ over (runWords rs) lent
   left-is = ap (λ (o : Outcome Answer). o .lent) done
 
-  pub listing-lined : length left ≡ length lent → Lined out 16 left (a .count)
+  pub listing-lined : length left ≡ length lent → Lined out headerRoom left (a .count)
   listing-lined same = record {
     there = omega (arith, count-is, few, same, size);
     few = omega (arith, count-is, few);
@@ -98,7 +98,7 @@ afterCheck w file =
     (cond (leb (countIn w file) mostRoutesShown) (runsText (listed w (routesIn w file) (countIn w file))) (refusedText (refused noRoom 0)))
     (refusedText (fileCheck w file))
 
--- a file that is not too long, read into a list of 256 routes
+-- a file that is not too long, read into a list of as many routes as a page shows
 module _ (w : ℕ) (file lent : List ℕ) {left : List ℕ} {a : Answer} (short : length file ≤ mostBytes) (size : length lent ≡ mostRoutesShown * routeSize)
     (is : outcome a left ≡ readFile w file lent) where
   is-read : outcome a left ≡ checkedThen (fileCheck w file) (wordsIn w file) (countIn w file) lent

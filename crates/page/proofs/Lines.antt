@@ -10,13 +10,13 @@ use Rattle.lists.specs.Numbered.{listOf}
 use Rattle.lists.proofs.Numbered.{list-of-snoc}
 use Rattle.runs_rules.specs.Runs.{Run, run, runWords}
 use Rattle.page.specs.Text.{newline, space, numeral, address}
-use Rattle.page.specs.Page.{lineOf, linesOf, runAt}
+use Rattle.page.specs.Page.{lineOf, linesOf, lineRoom, runAt}
 use Rattle.page.specs.Needs.{Wrote}
 use Rattle.page.proofs.Wrote.{wrote-more, wrote-as}
 use Rattle.page.proofs.Text.{decimal-le, dotted-le}
 
--- 43 bytes hold any line
-pub line-le : (first last port : ℕ) → first < 2 ^ 32 → last < 2 ^ 32 → port < 2 ^ 32 → length (lineOf (run first last port)) ≤ 43
+-- a line's room holds any line
+pub line-le : (first last port : ℕ) → first < 2 ^ 32 → last < 2 ^ 32 → port < 2 ^ 32 → length (lineOf (run first last port)) ≤ lineRoom
 line-le first last port h k l =
     let a : List ℕ = address first in
     let b : List ℕ = address last in

@@ -11,7 +11,7 @@ use Rattle.file_rules.specs.File.{fileRoute}
 use Rattle.file_rules.specs.Check.{fileCheck}
 use Rattle.runs_rules.specs.Runs.{Run, run, runSize}
 use Rattle.runs_rules.specs.Listing.{listed}
-use Rattle.page.specs.Text.{newline, space, numeral, address}
+use Rattle.page.specs.Text.{newline, space, mostDigits, numeral, address, addressRoom}
 
 -- a line: "first address, last address, port"
 abbrev pub lineOf : Run → List ℕ
@@ -40,6 +40,26 @@ mostBytes = 1797
 abbrev pub mostRoutesShown : ℕ
 mostRoutesShown = 256
 
+-- "n routes have at most 2n+1 runs"
+abbrev pub mostRunsShown : ℕ
+mostRunsShown = 2 * mostRoutesShown + 1
+
+-- bytes that hold any header: `runs`, a space, a number and a newline
+abbrev pub headerRoom : ℕ
+headerRoom = 5 + mostDigits + 1
+
+-- any line: two addresses and a number, each with one byte after it
+abbrev pub lineRoom : ℕ
+lineRoom = addressRoom + 1 + (addressRoom + 1) + (mostDigits + 1)
+
+-- any refusal: `refused`, a space, and two numbers, each with one byte after it
+abbrev pub refusalRoom : ℕ
+refusalRoom = 8 + (mostDigits + 1) + (mostDigits + 1)
+
+-- any page: a header and the lines, which is more than a refusal takes
+abbrev pub pageRoom : ℕ
+pageRoom = headerRoom + mostRunsShown * lineRoom
+
 -- the page of a file of w-bit addresses: too long; refused; too many routes; else the listing of its routes
 unfoldable pub pageText : ℕ → List ℕ → List ℕ
 pageText w file =
@@ -50,10 +70,6 @@ pageText w file =
     (refusedText (refused noRoom 0)))
     (refusedText (fileCheck w file)))
     (refusedText (refused noRoom 0))
-
--- bytes that hold any page: a header of 16, and 513 lines of 43, a word having ten digits at most and an address 15 bytes
-abbrev pub pageRoom : ℕ
-pageRoom = 16 + 513 * 43
 
 -- how many bytes the page has, over the front of the lent ones; where fewer than any page's are lent, none
 unfoldable pub pageOf : ℕ → List ℕ → List ℕ → Outcome ℕ

@@ -23,8 +23,11 @@ decimal zero x = []
 decimal (suc k) x = cond (ltb x 10) (digit x) (decimal k (x / 10) ++ digit (x % 10))
 
 -- a 32-bit number has ten digits at most
+abbrev pub mostDigits : ℕ
+mostDigits = 10
+
 abbrev pub numeral : ℕ → List ℕ
-numeral x = decimal 10 x
+numeral x = decimal mostDigits x
 
 -- the bytes of a number in decimal with dots between them, the most significant first: the last byte, and k before it
 unfoldable pub dotted : ℕ → ℕ → List ℕ
@@ -34,3 +37,7 @@ dotted (suc k) a = dotted k (a / 256) ++ dot ++ numeral (a % 256)
 -- an address has four bytes
 abbrev pub address : ℕ → List ℕ
 address a = dotted 3 a
+
+-- "255.255.255.255"
+abbrev pub addressRoom : ℕ
+addressRoom = 15

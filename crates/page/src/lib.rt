@@ -9,7 +9,7 @@ ghost use Rattle.routes.specs.Routes.{routeAt, routeCount};
 ghost use Rattle.lists.specs.Numbered.{listOf};
 ghost use Rattle.runs_rules.specs.Runs.{run};
 ghost use Rattle.runs_rules.specs.Listing.{listed};
-ghost use Rattle.page.specs.Page.{lineOf, linesOf, header, runsText, refusedText, runAt, pageOf};
+ghost use Rattle.page.specs.Page.{lineOf, linesOf, header, headerRoom, lineRoom, refusalRoom, runsText, refusedText, runAt, pageOf};
 ghost use Rattle.page.specs.Needs.{Wrote, Lined, Shown};
 use file_read::read_file;
 use list_runs::RUN_SIZE;
@@ -24,20 +24,32 @@ use routes::ROUTE_SIZE;
 mod put;
 
 // A longer file is refused.
-const MOST_BYTES: usize = 1797;
+pub const MOST_BYTES: usize = 1797;
 
-// The words of as many routes as a page shows, 256.
-const LIST_SIZE: usize = 256 * ROUTE_SIZE;
+// A valid file of more routes is refused.
+pub const MOST_ROUTES_SHOWN: usize = 256;
 
-// The words of as many runs as these routes have, 513.
-const RUNS_SIZE: usize = 513 * RUN_SIZE;
+// Those routes have no more runs: n have 2n+1 at most.
+pub const MOST_RUNS_SHOWN: usize = 2 * MOST_ROUTES_SHOWN + 1;
 
-// Bytes that hold any page: a header of 16, and 513 lines of 43.
-pub const PAGE_ROOM: usize = 22075;
+// Bytes that hold any header: "runs ", ten digits and a newline.
+pub const HEADER_ROOM: usize = 16;
+
+// Bytes that hold any line: two addresses of 15 bytes and a number of ten digits, each with one byte after it.
+pub const LINE_ROOM: usize = 43;
+
+// Bytes that hold any page.
+pub const PAGE_ROOM: usize = HEADER_ROOM + MOST_RUNS_SHOWN * LINE_ROOM;
+
+// The words of as many routes as a page shows.
+const LIST_SIZE: usize = MOST_ROUTES_SHOWN * ROUTE_SIZE;
+
+// The words of as many runs as these have.
+const RUNS_SIZE: usize = MOST_RUNS_SHOWN * RUN_SIZE;
 
 // A run's line: first address, last address, port.
 fn put_line(out: &mut [u8], at: usize, first: u32, last: u32, port: u32) -> usize
-    requires { ⌜ at + 43 ≤ length (now out) ⌝ }
+    requires { ⌜ at + lineRoom ≤ length (now out) ⌝ }
     ensures { λ r. ⌜ Wrote (now (out .entry)) at (lineOf (run first last port)) r (now (out .exit)) ⌝ }
 {
     let a = put_dotted(out, at, first, 3);
@@ -65,7 +77,7 @@ fn put_lines(out: &mut [u8], at: usize, runs: &[u32], n: usize) -> usize
 
 // The header, and the lines of the first n runs.
 fn put_listing(out: &mut [u8], runs: &[u32], n: usize) -> usize
-    requires { ⌜ Lined (now out) 16 (now runs) n ⌝ }
+    requires { ⌜ Lined (now out) headerRoom (now runs) n ⌝ }
     ensures { λ r. ⌜ Wrote (now (out .entry)) 0 (header n ++ linesOf (listOf (runAt (now (runs .entry))) n 0)) r (now (out .exit)) ⌝ }
 {
     let a = put_bytes(out, 0, b"runs ");
@@ -76,7 +88,7 @@ fn put_listing(out: &mut [u8], runs: &[u32], n: usize) -> usize
 
 // A refusal's number and place.
 fn put_refusal(out: &mut [u8], number: u32, place: u32) -> usize
-    requires { ⌜ 30 ≤ length (now out) ⌝ }
+    requires { ⌜ refusalRoom ≤ length (now out) ⌝ }
     ensures { λ r. ⌜ Wrote (now (out .entry)) 0 (refusedText (refused number place)) r (now (out .exit)) ⌝ }
 {
     let a = put_bytes(out, 0, b"refused ");

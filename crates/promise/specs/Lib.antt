@@ -1,3 +1,4 @@
 -- What every layer's promises share.
 pub mod Determined
+pub mod Made
 pub mod Over

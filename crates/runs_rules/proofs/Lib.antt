@@ -3,3 +3,4 @@ pub mod Runs
 pub mod Boundaries
 pub mod Listing
 pub mod Same
+pub mod Maximal

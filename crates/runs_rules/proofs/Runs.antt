@@ -15,7 +15,7 @@ use Rattle.runs_rules.specs.Theorems.{ListingUnique, ListingExists}
 
 module _ (f : ℕ → ℕ) (n : ℕ) where
   -- what follows a run has another port there
-  next-port : (m p : ℕ) (rs : List Run) → Apart p rs → Lists f n m rs → m < n → f m ≡ p → ⊥
+  pub next-port : (m p : ℕ) (rs : List Run) → Apart p rs → Lists f n m rs → m < n → f m ≡ p → ⊥
   next-port m p [] other ls h e = absurd (omega (arith, ls))
   next-port m p (r ∷ rs) other ls h e = other (sym (ls .0 .one-port m (omega arith) (ls .0 .some)) ∙ e)
 

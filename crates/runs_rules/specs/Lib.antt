@@ -2,4 +2,5 @@
 pub mod Runs
 pub mod Boundaries
 pub mod Listing
+pub mod Maximal
 pub mod Theorems

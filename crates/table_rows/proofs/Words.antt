@@ -18,7 +18,7 @@ use Rattle.table_rules.specs.declared.Row.{Row}
 use Rattle.lists.proofs.Sets.{get-sets-same, get-sets-other}
 
 -- a row's words
-abbrev rowWords : Row → List ℕ
+abbrev pub rowWords : Row → List ℕ
 rowWords x = x .value ∷ x .len ∷ x .port ∷ x .left ∷ x .right ∷ []
 
 store-row-sets : (ws : List ℕ) (r : ℕ) (x : Row) → storeWhole ws r x ≡ sets ws (r * 5) (rowWords x)

@@ -57,7 +57,7 @@ abbrev pub Unique : Mem → ℕ → Trie → Type 0
 Unique M r t = (i : ℕ) → times M r t i ≤ 1
 
 -- a side is the one in question or the other
-side-of : (d b : Bool) → (d ≡ b) ⊎ (d ≡ not b)
+pub side-of : (d b : Bool) → (d ≡ b) ⊎ (d ≡ not b)
 side-of false false = inl refl
 side-of false true = inr refl
 side-of true false = inr refl

@@ -3,6 +3,7 @@ pub mod Paths
 pub mod Holds
 pub mod Frame
 pub mod Lookup
+pub mod RowsRead
 pub mod Announce
 pub mod Best
 pub mod Withdraw

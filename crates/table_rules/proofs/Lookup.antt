@@ -27,14 +27,13 @@ use Rattle.table_rules.specs.declared.Row.{Row}
 use Rattle.refusals.specs.declared.found.Found.{Found}
 use Rattle.table_rules.proofs.Paths.{At, at-len, head-path, at-priority, at-matches}
 use Rattle.table_rules.proofs.Holds.{hit-same, row-at, child-lt, Below, below-child, below-once}
+use Rattle.table_rules.proofs.Closed.{by-cond}
 
 -- a row that is not wrong, by its tests
 visit-on : (w : ℕ) (x : Row) (n a depth best rd : ℕ) (on : ℕ → Found) (m p : Bool) → wrongRow w x n a depth ≡ false
     → rowMatches w x a ≡ m → ltb depth (x .len) ≡ p
     → visit w x n a depth best rd on ≡ cond (m && p) (found (x .port) rd) (on (cond m (x .port) best))
-visit-on w x n a depth best rd on m p wrong em ep =
-    ap (λ (b : Bool). cond b (lost notInOrder rd) (cond (rowMatches w x a && ltb depth (x .len)) (found (x .port) rd) (on (cond (rowMatches w x a) (x .port) best)))) wrong
-    ∙ ap₂ (λ (b c : Bool). cond (b && c) (found (x .port) rd) (on (cond b (x .port) best))) em ep
+visit-on w x n a depth best rd on m p wrong em ep = rw (wrong, em, ep)
 
 module _ (w : ℕ) (M : Mem) (n a : ℕ) (fits : a < 2 ^ w) where
   abbrev answer : Trie → Bits → ℕ → ℕ → Found
@@ -172,12 +171,12 @@ lookup-is-scan w capacity M n a S good fits =
 
 visit-reads : (w : ℕ) (x : Row) (n a depth best rd most : ℕ) (on : ℕ → Found) → rd ≤ most → ((b : ℕ) → on b .reads ≤ most)
     → visit w x n a depth best rd on .reads ≤ most
-visit-reads w x n a depth best rd most on h k = go (wrongRow w x n a depth) (endsAt w x a depth)
+visit-reads w x n a depth best rd most on h k =
+    by-cond Few (wrongRow w x n a depth) _ _ (λ e. omega (arith, h))
+    (λ e. by-cond Few (endsAt w x a depth) _ _ (λ f. h) (λ f. k (betterOf w x a best)))
   where
-    go : (b e : Bool) → cond b (lost notInOrder rd) (cond e (found (x .port) rd) (on (betterOf w x a best))) .reads ≤ most
-    go true e = h
-    go false true = h
-    go false false = k (betterOf w x a best)
+    Few : Found → Type 0
+    Few f = f .reads ≤ most
 
 walk-reads : (w : ℕ) (M : Mem) (n a k r best rd : ℕ) → walk w M n a k r best rd .reads ≤ rd + 1 + k
 unfolding walk

@@ -371,7 +371,7 @@ module _ (X : Type 0) (L : Layout X) (w : ℕ) (st : Stores w L)
     abbrev t′ : Trie
     t′ = remove q-bits (node s p c)
 
-    shrunk : Shrunk L w st m z [] 0 (node s p c) q-bits
+    pub shrunk : Shrunk L w st m z [] 0 (node s p c) q-bits
     shrunk =
         cut-shrinks L w st s p c w [] m 0 q q-bits S (omega arith) q-at holds (λ i. omega (arith, once i, below-le n i))
         (λ i k. omega (arith, below-once (L .get m) (node s p c) n once i k)) rule live not-last

@@ -3,6 +3,7 @@ pub mod Rows
 pub mod Order
 pub mod Holds
 pub mod Lookup
+pub mod RowsRead
 pub mod Check
 pub mod Save
 pub mod Announce

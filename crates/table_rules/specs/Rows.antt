@@ -2,6 +2,7 @@
 -- function from the row's number. Assumes nothing.
 use mathlib.Core.Path.{_≡_}
 use mathlib.Core.Bool.{Bool, cond}
+use mathlib.Core.List.{[], _∷_}
 use Prim.Native.Nat.{ℕ, _^_, _<_}
 use lib.Dec.{eqb}
 use Rattle.bits.specs.Bits.{Bits, prefixBits}
@@ -14,6 +15,11 @@ Mem = ℕ → Row
 -- the left child, and at true the right one; "0 as a child means none"
 abbrev pub child : Row → Bool → ℕ
 child x b = cond b (x .right) (x .left)
+
+-- the row of a place, the bits on the way to it from row r
+abbrev pub rowOf : Mem → ℕ → Bits → ℕ
+rowOf M r [] = r
+rowOf M r (b ∷ place) = rowOf M (child (M r) b) place
 
 abbrev pub routeOf : Row → Route
 routeOf x = record { value = x .value; len = x .len; port = x .port }

@@ -11,13 +11,14 @@ use Rattle.bits.specs.Prefix.{Valid}
 use Rattle.trie.specs.Routes.{Routes, upd, held}
 use Rattle.trie.specs.Scan.{scan}
 use Rattle.trie.specs.Trie.{reads}
-use Rattle.refusals.specs.Refusals.{found}
+use Rattle.refusals.specs.Refusals.{notInOrder, found, lost}
 use Rattle.routes.specs.Bounds.{mostRoutes}
 use Rattle.routes.specs.Routes.{route, bitRoute, ValidRoute, ValidList}
 use Rattle.routes.specs.declared.Route.{Route}
 use Rattle.table_rules.specs.Rows.{Mem, Layout, Stores}
 use Rattle.table_rules.specs.Holds.{Placed, GoodFor, GoodOrder}
 use Rattle.table_rules.specs.Lookup.{lookupIn}
+use Rattle.table_rules.specs.RowsRead.{RowsRead}
 use Rattle.table_rules.specs.Check.{isGood}
 use Rattle.table_rules.specs.Save.{saved}
 use Rattle.table_rules.specs.Announce.{isHeld, announced}
@@ -34,6 +35,25 @@ LookupIsScan =
 -- "the rows read, at most 33": on any rows, at most one more than the address has bits
 abbrev pub ReadsLe : Type 0
 ReadsLe = (w capacity : ℕ) (M : Mem) (n a : ℕ) → lookupIn w capacity M n a .reads ≤ w + 1
+
+-- of any table with routes, in good order or not, the lookup reads the rows on the address's way to where it ends, and is refused
+-- 11 exactly if the last of them is wrong
+abbrev pub LookupReads : Type 0
+LookupReads =
+    (w capacity : ℕ) (M : Mem) (n a : ℕ) → 0 < n → n ≤ capacity
+    → RowsRead w M n a (lookupIn w capacity M n a .reads) (lookupIn w capacity M n a .number)
+
+-- no other number of rows, and no other number of a refusal, would do
+abbrev pub RowsReadOne : Type 0
+RowsReadOne =
+    (w : ℕ) (M : Mem) (n a k k′ number number′ : ℕ) → RowsRead w M n a k number → RowsRead w M n a k′ number′
+    → (k ≡ k′) × (number ≡ number′)
+
+-- "With n = 0 no row is read; the answer is port 0"; "refused 11 if n is above the capacity, with no row read"
+abbrev pub LookupReadsNone : Type 0
+LookupReadsNone =
+    (w capacity : ℕ) (M : Mem) (n a : ℕ)
+    → (n ≡ 0 → lookupIn w capacity M n a ≡ found 0 0) × (capacity < n → lookupIn w capacity M n a ≡ lost notInOrder 0)
 
 -- the check answers yes exactly where the table is in good order
 abbrev pub CheckIsGood : Type 0

@@ -5,3 +5,4 @@ pub mod History
 pub mod Unique
 pub mod BuildIsGood
 pub mod FillLoop
+pub mod BuildIsHistory

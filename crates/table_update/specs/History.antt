@@ -1,9 +1,11 @@
 -- Defines a history of calls on a table: demand 3, "after any sequence of announcements and withdrawals, some refused". Assumes nothing.
+use mathlib.Core.Path.{_≡_}
 use mathlib.Core.Bool.{Bool, true, false, cond}
 use mathlib.Core.List.{List, [], _∷_}
 use Prim.Native.Nat.{ℕ, _^_, _<_}
 use lib.Dec.{eqb}
 use Rattle.promise.specs.Over.{Outcome}
+use Rattle.lists.specs.Numbered.{listOf}
 use Rattle.bits.specs.Bits.{Bits, prefixBits, same}
 use Rattle.trie.specs.Routes.{Routes, noRoutes, upd}
 use Rattle.refusals.specs.declared.Answer.{Answer}
@@ -61,3 +63,12 @@ Fits w (withdrawing value len) = value < 2 ^ w
 abbrev pub AllFit : ℕ → List Call → Type 0
 AllFit w [] = Unit {0}
 AllFit w (c ∷ cs) = Fits w c × AllFit w cs
+
+-- every call of a list is accepted
+abbrev pub AllAccepted : Layout (List ℕ) → ℕ → Table → List Call → Type 0
+AllAccepted L w t [] = Unit {0}
+AllAccepted L w t (c ∷ cs) = (isAccepted L w t c ≡ true) × AllAccepted L w (after L w t c) cs
+
+-- "announcing its routes in list order": a call for each of the first n routes
+abbrev pub announcements : (ℕ → Route) → ℕ → List Call
+announcements R n = listOf (λ i. announcing (R i)) n 0

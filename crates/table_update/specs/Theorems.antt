@@ -3,10 +3,11 @@ use mathlib.Core.Path.{_≡_}
 use mathlib.Core.Bool.{false, cond}
 use mathlib.Core.List.{List, map}
 use Prim.Native.Nat.{ℕ, _+_, _^_, _<_, _≤_}
-use Rattle.promise.specs.Over.{outcome}
+use Rattle.promise.specs.Over.{Outcome, outcome}
 use Rattle.trie.specs.Routes.{Routes, upd, held}
 use Rattle.refusals.specs.Refusals.{accepted}
-use Rattle.routes.specs.Routes.{bitRoute, ValidList}
+use Rattle.refusals.specs.declared.Answer.{Answer}
+use Rattle.routes.specs.Routes.{routeAt, routeCount, bitRoute, ValidList, Words}
 use Rattle.lists.specs.Numbered.{listOf}
 use Rattle.routes.specs.Scan.{scanOf}
 use Rattle.routes.specs.declared.Route.{Route}
@@ -14,8 +15,8 @@ use Rattle.table_rules.specs.Rows.{Layout}
 use Rattle.table_rules.specs.Holds.{GoodFor}
 use Rattle.table_rules.specs.Lookup.{lookupIn}
 use Rattle.refusals.specs.declared.found.Found.{Found}
-use Rattle.table_update.specs.Calls.{announceInto, builtFrom}
-use Rattle.table_update.specs.History.{Call, announcing, Table, after, isAccepted, ran, callPrefix, callPort, portAfter, Fits, AllFit}
+use Rattle.table_update.specs.Calls.{announceInto, builtFrom, buildInto}
+use Rattle.table_update.specs.History.{Call, announcing, Table, after, isAccepted, ran, callPrefix, callPort, portAfter, Fits, AllFit, AllAccepted, announcements}
 
 -- one call on a table in good order for S: accepted, it is in good order for the changed set; refused, nothing has changed
 abbrev pub CallIs : Layout (List ℕ) → ℕ → Type 0
@@ -58,3 +59,21 @@ BuildIsAnnouncing L w =
     (R : ℕ → Route) (words : List ℕ) (n i : ℕ) → ValidList w R n → n ≤ L .room words → i < n
     → announceInto L w (builtFrom L w R i 0 words) i (R i)
     ≡ outcome (accepted (i + 1)) (builtFrom L w R (i + 1) 0 words)
+
+-- what calls leave from the empty table on, where each of them is accepted
+pub record LeftBy (L : Layout (List ℕ)) (w : ℕ) (words : List ℕ) (calls : List Call) (lent : List ℕ) (n : ℕ) : Type 0 where
+  pub each : AllAccepted L w (record { words = words; count = 0 }) calls
+  pub left : ran L w (record { words = words; count = 0 }) calls ≡ record { words = lent; count = n }
+
+-- the same as a history: the calls that announce the routes in list order leave the words built, and their number
+abbrev pub BuildIsHistory : Layout (List ℕ) → ℕ → Type 0
+BuildIsHistory L w =
+    (R : ℕ → Route) (words : List ℕ) (n : ℕ) → ValidList w R n → n ≤ L .room words
+    → LeftBy L w words (announcements R n) (builtFrom L w R n 0 words) n
+
+-- an accepted build leaves what that history leaves, and answers its n
+abbrev pub AcceptedBuildIsHistory : Layout (List ℕ) → ℕ → Type 0
+AcceptedBuildIsHistory L w =
+    (list words : List ℕ) → Words w list
+    → let built : Outcome Answer = buildInto L w list words in
+    built .answer .number ≡ 0 → LeftBy L w words (announcements (routeAt list) (routeCount list)) (built .lent) (built .answer .count)

@@ -1,14 +1,16 @@
-//! The text sources in `examples` say exactly what the route files beside them hold.
+//! The text sources in `examples` say exactly what the route files beside them hold, and the stored pages are the reference's.
 
 use maftehon::{Route, RouteList};
+use reference::runs_text;
 use std::fs;
 use std::path::{Path, PathBuf};
 
 const EXAMPLES: &str = concat!(env!("CARGO_MANIFEST_DIR"), "/../../examples");
+const REFUSED: &str = concat!(env!("CARGO_MANIFEST_DIR"), "/../../examples/refused");
 
-/// The paths of the route files.
-fn route_files() -> Vec<PathBuf> {
-    let entries = fs::read_dir(EXAMPLES).expect("the examples are there");
+/// The paths of the route files in a folder.
+fn route_files(folder: &str) -> Vec<PathBuf> {
+    let entries = fs::read_dir(folder).expect("the examples are there");
     let paths = entries.map(|entry| entry.expect("the folder can be read").path());
     paths.filter(|path| path.extension().is_some_and(|extension| extension == "routes")).collect()
 }
@@ -28,10 +30,31 @@ fn list_of_text(path: &Path) -> RouteList {
 
 #[test]
 fn every_route_file_is_what_its_text_source_says() {
-    let files = route_files();
+    let files = route_files(EXAMPLES);
     assert!(!files.is_empty());
     for file in files {
         let bytes = fs::read(&file).expect("the file can be read");
         assert_eq!(list_of_text(&file.with_extension("txt")).write(), bytes, "{}", file.display());
+    }
+}
+
+#[test]
+fn every_stored_page_is_the_references() {
+    for folder in [EXAMPLES, REFUSED] {
+        let files = route_files(folder);
+        assert!(!files.is_empty());
+        for file in files {
+            let [bytes, page] =
+                [&file, &file.with_extension("runs")].map(|path| fs::read(path).expect("the file can be read"));
+            assert_eq!(runs_text(&bytes), page, "{}", file.display());
+        }
+    }
+}
+
+#[test]
+fn every_file_in_refused_is_refused() {
+    for file in route_files(REFUSED) {
+        let page = fs::read(file.with_extension("runs")).expect("the file can be read");
+        assert!(page.starts_with(b"refused "), "{}", file.display());
     }
 }

@@ -4,7 +4,7 @@ use lib.ListN.{length, getD}
 use native.Mathlib.Omega.{arith}
 use borrow.Author.Needs.{needs}
 use Rattle.lists.specs.Numbered.{listOf}
-use Rattle.page.specs.Page.{linesOf, runAt}
+use Rattle.page.specs.Page.{linesOf, lineRoom, runAt}
 use Rattle.page.specs.Needs.{Wrote}
 use Rattle.page.proofs.Wrote.{wrote-none}
 use Rattle.page.proofs.Lines.{line-le, wrote-line}
@@ -13,7 +13,7 @@ use Rattle.page.proofs.put_lines.Tie as tie
 
 abbrev Inv-loop : tie.InvT-loop
 Inv-loop out₀ at runs n next₀ i₀ out next i =
-    (i ≤ n) × (length out ≡ length out₀) × (next ≤ at + i * 43) × Wrote out₀ at (linesOf (listOf (runAt runs) i 0)) next out
+    (i ≤ n) × (length out ≡ length out₀) × (next ≤ at + i * lineRoom) × Wrote out₀ at (linesOf (listOf (runAt runs) i 0)) next out
 
 abbrev μ-loop : tie.MeasureT-loop
 μ-loop out₀ at runs n next₀ i₀ out next i = n - i

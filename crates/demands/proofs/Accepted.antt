@@ -1,0 +1,153 @@
+-- Something that each call may not refuse, by its checks: an empty file, list, table or image, or the whole space to port 1. Assumes
+-- nothing.
+use mathlib.Core.Path.{_≡_, refl, ap, subst, _∙_}
+use mathlib.Core.List.{List, [], _∷_}
+use Prim.Native.Nat.{ℕ, _-_, _/_, _^_}
+use native.Mathlib.Omega.{arith}
+use lib.Count.{ones, onesIn}
+use lib.ListN.{replicate}
+use Rattle.promise.specs.Over.{Outcome}
+use Rattle.bits.specs.Bits.{bits}
+use Rattle.trie.specs.Scan.{longest, plainScan}
+use Rattle.trie.specs.Routes.{Route as BitRoute}
+use Rattle.refusals.specs.Refusals.{accepted}
+use Rattle.refusals.specs.declared.Answer.{Answer}
+use Rattle.routes.specs.Routes.{routeAt}
+use Rattle.lists.specs.Numbered.{listOf}
+use Rattle.routes.specs.Check.{faultAt, firstFault, routesCheck, listCheck}
+use Rattle.routes.specs.Scan.{scanOf, listScan}
+use Rattle.file_rules.specs.Theorems.{emptyFile}
+use Rattle.file_rules.proofs.Trips.{empty-file}
+use Rattle.table_rows.specs.Words.{rowAt, storeRow, fiveWords}
+use Rattle.table_rules.specs.Check.{isGood}
+use Rattle.table_rules.specs.Save.{saveInto}
+use Rattle.table_update.specs.Calls.{buildInto}
+use Rattle.image_rules.specs.Image.{someLonger}
+use Rattle.image_rules.specs.Lookup as image
+use Rattle.image_rules.specs.Lookup.{lookupWords}
+use Rattle.image_build.specs.Build.{Left, left, doneBuild, listRoutes, buildImage}
+use Rattle.runs_rules.specs.Runs.{Run, run, Lists}
+use Rattle.runs_rules.specs.Listing.{writeRuns}
+use Rattle.runs_rules.proofs.Listing.{listed-lists, listed-none, list-runs-done}
+use Rattle.table_runs.specs.TableRuns.{tableRoutes, tableRuns}
+use Rattle.refusals.specs.declared.found.Found.{Found}
+use Rattle.demands.specs.Demands.{Demand1}
+use Rattle.demands.specs.Impostors.{EachAccepts, NoCallRefusesAll}
+use Rattle.demands.proofs.Decided.{demand-1-decides}
+use Rattle.demands.proofs.OfLists.{read-refuses, write-refuses, check-refuses, list-runs-refuses}
+use Rattle.demands.proofs.OfTables.{table-check-refuses, build-refuses, save-refuses, table-runs-refuses}
+use Rattle.demands.proofs.OfImages.{image-build-refuses, image-lookup-refuses}
+use Rattle.demands.proofs.Images.{image-is}
+
+abbrev pub wholeSpace : List ℕ
+wholeSpace = 0 ∷ 0 ∷ 1 ∷ []
+
+pub no-routes-fine : listCheck 32 [] ≡ accepted 0
+unfolding listCheck routesCheck firstFault
+no-routes-fine = refl
+
+pub whole-space-fine : listCheck 32 wholeSpace ≡ accepted 0
+unfolding listCheck routesCheck firstFault faultAt
+whole-space-fine = refl
+
+-- their tables
+abbrev numberOf : Outcome Answer → ℕ
+numberOf o = o .answer .number
+
+pub no-routes-built : numberOf (buildInto fiveWords 32 [] []) ≡ 0
+unfolding buildInto
+no-routes-built = rw no-routes-fine
+
+pub whole-space-built : numberOf (buildInto fiveWords 32 wholeSpace (replicate 5 0)) ≡ 0
+unfolding buildInto
+whole-space-built = rw whole-space-fine
+
+-- and their images, at stride 1
+abbrev wholeBits : List BitRoute
+wholeBits = record { prefix = []; port = 1 } ∷ []
+
+pub no-routes-imaged : buildImage 32 1 [] (replicate 3 0) (replicate 2 0) ≡ left (doneBuild 1 2) (3 ∷ 0 ∷ 0 ∷ []) (0 ∷ 0 ∷ [])
+unfolding someLonger listOf bits longest plainScan
+no-routes-imaged = image-is 1 [] (3 ∷ 0 ∷ 0 ∷ []) (0 ∷ 0 ∷ []) [] refl no-routes-fine refl refl refl (replicate 3 0) (replicate 2 0) refl
+
+pub whole-space-imaged : buildImage 32 1 wholeSpace (replicate 3 0) (replicate 2 0) ≡ left (doneBuild 1 2) (3 ∷ 0 ∷ 0 ∷ []) (1 ∷ 1 ∷ [])
+unfolding someLonger listOf bits longest plainScan
+whole-space-imaged =
+    image-is 1 wholeSpace (3 ∷ 0 ∷ 0 ∷ []) (1 ∷ 1 ∷ []) wholeBits refl whole-space-fine refl refl refl (replicate 3 0) (replicate 2 0) refl
+
+image-found : lookupWords 32 1 (3 ∷ 0 ∷ 0 ∷ []) (0 ∷ 0 ∷ []) 0 .number ≡ 0
+unfolding lookupWords image.walk ones onesIn
+image-found = refl
+
+-- the runs of no route
+one-run : Lists (scanOf 32 (routeAt []) 0) (2 ^ 32) 0 (run 0 (2 ^ 32 - 1) 0 ∷ [])
+one-run = subst (Lists (scanOf 32 (routeAt []) 0) (2 ^ 32) 0) (listed-none 32 (routeAt [])) (listed-lists 32 (routeAt []) 0)
+
+-- a table of no route is in good order, and its listing is the one run
+no-rows-listed : tableRuns 32 0 (rowAt []) 0 (replicate 3 0) ≡ writeRuns (run 0 (2 ^ 32 - 1) 0 ∷ []) (replicate 3 0)
+unfolding tableRuns isGood rowAt storeRow
+no-rows-listed = ap (λ (rs : List Run). writeRuns rs (replicate 3 0)) (listed-none 32 (tableRoutes 32 (rowAt []) 0))
+
+one-run-fits : numberOf (writeRuns (run 0 (2 ^ 32 - 1) 0 ∷ []) (replicate 3 0)) ≡ 0
+unfolding writeRuns
+one-run-fits = refl
+
+pub no-call-refuses-all : NoCallRefusesAll
+unfolding isGood saveInto rowAt storeRow
+no-call-refuses-all B d =
+    let D = demand-1-decides in record {
+      file-read = (
+        emptyFile,
+        [],
+        λ o m. D .file-read emptyFile [] _ _ _ _ (d .file-read emptyFile [] o m .exact) (read-refuses 32 emptyFile [] .exact) .0 ∙ ap numberOf (empty-file 32 [] .0),
+      );
+      file-write = (
+        [],
+        replicate 5 0,
+        λ o m. D .file-write [] (replicate 5 0) _ _ _ _ (d .file-write [] (replicate 5 0) o m .exact) (write-refuses 32 [] (replicate 5 0) .exact) .0
+            ∙ ap numberOf (empty-file 32 (replicate 5 0) .1 (omega arith)),
+      );
+      list-check = (
+        [],
+        λ x m. D .list-check [] _ _ _ _ (d .list-check [] x m .exact) (check-refuses 32 [] .exact) .0 ∙ ap (λ (y : Answer). y .number) no-routes-fine,
+      );
+      list-scan = (
+        [],
+        0,
+        λ x m. D .list-check [] _ _ _ _ (d .list-scan [] 0 x m .exact) (check-refuses 32 [] .exact) .0 ∙ ap (λ (y : Answer). y .number) no-routes-fine,
+      );
+      list-runs = (
+        [],
+        replicate 3 0,
+        λ o m. D .list-runs [] (replicate 3 0) _ _ _ _ (d .list-runs [] (replicate 3 0) o m .exact) (list-runs-refuses 32 [] (replicate 3 0) .exact) .0
+            ∙ ap numberOf (list-runs-done 32 [] (replicate 3 0) (run 0 (2 ^ 32 - 1) 0 ∷ []) (ap (λ (y : Answer). y .number) no-routes-fine) one-run (omega arith)),
+      );
+      table-check = ([], 0, λ x m. D .table-check [] 0 _ _ _ _ (d .table-check [] 0 x m .exact) (table-check-refuses 32 [] 0 .exact) .0);
+      table-build = ([], [], λ o m. D .table-build [] [] _ _ _ _ (d .table-build [] [] o m .exact) (build-refuses 32 [] [] .exact) .0 ∙ no-routes-built);
+      table-save = ([], 0, [], λ o m. D .table-save [] 0 [] _ _ _ _ (d .table-save [] 0 [] o m .exact) (save-refuses 32 [] 0 [] .exact) .0);
+      table-runs = (
+        [],
+        0,
+        replicate 3 0,
+        λ o m. D .table-runs [] 0 (replicate 3 0) _ _ _ _ (d .table-runs [] 0 (replicate 3 0) o m .exact) (table-runs-refuses 32 [] 0 (replicate 3 0) .exact) .0
+            ∙ ap numberOf no-rows-listed ∙ one-run-fits,
+      );
+      image-build = (
+        1,
+        [],
+        replicate 3 0,
+        replicate 2 0,
+        λ x m. D .image-build 1 [] (replicate 3 0) (replicate 2 0) _ _ _ _ (d .image-build 1 [] (replicate 3 0) (replicate 2 0) x m .exact)
+            (image-build-refuses 32 1 [] (replicate 3 0) (replicate 2 0) .exact) .0
+            ∙ ap (λ (y : Left). y .built .number) no-routes-imaged,
+      );
+      image-lookup = (
+        1,
+        3 ∷ 0 ∷ 0 ∷ [],
+        0 ∷ 0 ∷ [],
+        0,
+        λ x m. D .image-lookup 1 (3 ∷ 0 ∷ 0 ∷ []) (0 ∷ 0 ∷ []) 0 _ _ _ _ (d .image-lookup 1 (3 ∷ 0 ∷ 0 ∷ []) (0 ∷ 0 ∷ []) 0 x m .exact)
+            (image-lookup-refuses 32 1 (3 ∷ 0 ∷ 0 ∷ []) (0 ∷ 0 ∷ []) 0 .exact) .0
+            ∙ image-found,
+      );
+    }

@@ -1,0 +1,121 @@
+-- Defines the boundary of the library itself, from the contracts of its exports as they are generated beside them: a call may have
+-- just the outcomes that its contract allows. RULES, "Calls". Assumes nothing.
+use mathlib.Core.Path.{_≡_}
+use mathlib.Core.Logic.{_⊎_}
+use mathlib.Core.List.{List}
+use Prim.Native.Nat.{ℕ}
+use denote.Ref.{now}
+use borrow.Fn.Kinds.{Out}
+use Rattle.promise.specs.Made.{Made}
+use Rattle.promise.specs.Over.{Outcome, outcome}
+use Rattle.refusals.specs.Reply.{Reply, reply}
+use Rattle.routes.specs.declared.Route.{Route}
+use Rattle.maftehon.specs.Reply.{Imaged, imaged}
+use Rattle.demands.specs.Boundary.{Boundary}
+use Rattle.maftehon.proofs.files.mft_file_read.Kinds as file-read-kinds
+use Rattle.maftehon.proofs.files.mft_file_read.Reads as file-read
+use Rattle.maftehon.proofs.files.mft_file_write.Kinds as file-write-kinds
+use Rattle.maftehon.proofs.files.mft_file_write.Reads as file-write
+use Rattle.maftehon.proofs.lists.mft_list_check.Kinds as list-check-kinds
+use Rattle.maftehon.proofs.lists.mft_list_check.Reads as list-check
+use Rattle.maftehon.proofs.lists.mft_list_scan.Kinds as list-scan-kinds
+use Rattle.maftehon.proofs.lists.mft_list_scan.Reads as list-scan
+use Rattle.maftehon.proofs.lists.mft_list_runs.Kinds as list-runs-kinds
+use Rattle.maftehon.proofs.lists.mft_list_runs.Reads as list-runs
+use Rattle.maftehon.proofs.tables.mft_table_check.Kinds as table-check-kinds
+use Rattle.maftehon.proofs.tables.mft_table_check.Reads as table-check
+use Rattle.maftehon.proofs.tables.mft_table_lookup.Kinds as table-lookup-kinds
+use Rattle.maftehon.proofs.tables.mft_table_lookup.Reads as table-lookup
+use Rattle.maftehon.proofs.tables.mft_table_announce.Kinds as table-announce-kinds
+use Rattle.maftehon.proofs.tables.mft_table_announce.Reads as table-announce
+use Rattle.maftehon.proofs.tables.mft_table_withdraw.Kinds as table-withdraw-kinds
+use Rattle.maftehon.proofs.tables.mft_table_withdraw.Reads as table-withdraw
+use Rattle.maftehon.proofs.tables.mft_table_build.Kinds as table-build-kinds
+use Rattle.maftehon.proofs.tables.mft_table_build.Reads as table-build
+use Rattle.maftehon.proofs.tables.mft_table_save.Kinds as table-save-kinds
+use Rattle.maftehon.proofs.tables.mft_table_save.Reads as table-save
+use Rattle.maftehon.proofs.tables.mft_table_runs.Kinds as table-runs-kinds
+use Rattle.maftehon.proofs.tables.mft_table_runs.Reads as table-runs
+use Rattle.maftehon.proofs.images.mft_image_build.Kinds as image-build-kinds
+use Rattle.maftehon.proofs.images.mft_image_build.Reads as image-build
+use Rattle.maftehon.proofs.images.mft_image_lookup.Kinds as image-lookup-kinds
+use Rattle.maftehon.proofs.images.mft_image_lookup.Reads as image-lookup
+use Rattle.maftehon.proofs.images.mft_image_lookup_1.Kinds as image-lookup-1-kinds
+use Rattle.maftehon.proofs.images.mft_image_lookup_1.Reads as image-lookup-1
+use Rattle.maftehon.proofs.images.mft_image_lookup_2.Reads as image-lookup-2
+use Rattle.maftehon.proofs.images.mft_image_lookup_4.Reads as image-lookup-4
+
+-- a lookup at a constant stride, by the contract of an export that has no other argument
+abbrev pub LookedAt : Out 3 image-lookup-1-kinds.ps image-lookup-1-kinds.r → (nodes ports : List ℕ) → ℕ → Reply → Type 0
+LookedAt Post nodes ports address x =
+    (c : Made 3 image-lookup-1-kinds.ps image-lookup-1-kinds.r Post)
+    × (now (c .args .0) ≡ nodes) × (now (c .args .1 .0) ≡ ports) × (c .args .1 .1 .0 ≡ address)
+    × (reply (c .result) (now (c .exit .1 .1 .1 .0)) ≡ x)
+
+-- and with the stride among the arguments
+abbrev pub LookedBy : ℕ → (nodes ports : List ℕ) → ℕ → Reply → Type 0
+LookedBy stride nodes ports address x =
+    (c : Made 3 image-lookup-kinds.ps image-lookup-kinds.r image-lookup.Post)
+    × (c .args .0 ≡ stride) × (now (c .args .1 .0) ≡ nodes) × (now (c .args .1 .1 .0) ≡ ports) × (c .args .1 .1 .1 .0 ≡ address)
+    × (reply (c .result) (now (c .exit .1 .1 .1 .1 .0)) ≡ x)
+
+-- each call by its export: made with these arguments, it returned and left this; the lookup in an image by any of four
+abbrev pub exports : Boundary
+exports = record {
+  file-read = λ file list o.
+      (c : Made 3 file-read-kinds.ps file-read-kinds.r file-read.Post)
+      × (now (c .args .0) ≡ file) × (now (c .args .1 .0) ≡ list)
+      × (outcome (reply (c .result) (now (c .exit .1 .1 .0))) (now (c .exit .1 .0)) ≡ o);
+  file-write = λ list file o.
+      (c : Made 3 file-write-kinds.ps file-write-kinds.r file-write.Post)
+      × (now (c .args .0) ≡ list) × (now (c .args .1 .0) ≡ file)
+      × (outcome (reply (c .result) (now (c .exit .1 .1 .0))) (now (c .exit .1 .0)) ≡ o);
+  list-check = λ list x.
+      (c : Made 2 list-check-kinds.ps list-check-kinds.r list-check.Post)
+      × (now (c .args .0) ≡ list)
+      × (reply (c .result) (now (c .exit .1 .0)) ≡ x);
+  list-scan = λ list address x.
+      (c : Made 2 list-scan-kinds.ps list-scan-kinds.r list-scan.Post)
+      × (now (c .args .0) ≡ list) × (c .args .1 .0 ≡ address)
+      × (reply (c .result) (now (c .exit .1 .1 .0)) ≡ x);
+  list-runs = λ list runs o.
+      (c : Made 3 list-runs-kinds.ps list-runs-kinds.r list-runs.Post)
+      × (now (c .args .0) ≡ list) × (now (c .args .1 .0) ≡ runs)
+      × (outcome (reply (c .result) (now (c .exit .1 .1 .0))) (now (c .exit .1 .0)) ≡ o);
+  table-check = λ rows n x.
+      (c : Made 2 table-check-kinds.ps table-check-kinds.r table-check.Post)
+      × (now (c .args .0) ≡ rows) × (c .args .1 .0 ≡ n)
+      × (reply (c .result) (now (c .exit .1 .1 .0)) ≡ x);
+  table-lookup = λ rows n address x.
+      (c : Made 2 table-lookup-kinds.ps table-lookup-kinds.r table-lookup.Post)
+      × (now (c .args .0) ≡ rows) × (c .args .1 .0 ≡ n) × (c .args .1 .1 .0 ≡ address)
+      × (reply (c .result) (now (c .exit .1 .1 .1 .0)) ≡ x);
+  table-announce = λ rows n q o.
+      (c : Made 2 table-announce-kinds.ps table-announce-kinds.r table-announce.Post)
+      × (now (c .args .0) ≡ rows) × (c .args .1 .0 ≡ n) × (c .args .1 .1 .0 ≡ q .value) × (c .args .1 .1 .1 .0 ≡ q .len) × (c .args .1 .1 .1 .1 .0 ≡ q .port)
+      × (outcome (reply (c .result) (now (c .exit .1 .1 .1 .1 .1 .0))) (now (c .exit .0)) ≡ o);
+  table-withdraw = λ rows n value len o.
+      (c : Made 2 table-withdraw-kinds.ps table-withdraw-kinds.r table-withdraw.Post)
+      × (now (c .args .0) ≡ rows) × (c .args .1 .0 ≡ n) × (c .args .1 .1 .0 ≡ value) × (c .args .1 .1 .1 .0 ≡ len)
+      × (outcome (reply (c .result) (now (c .exit .1 .1 .1 .1 .0))) (now (c .exit .0)) ≡ o);
+  table-build = λ list rows o.
+      (c : Made 3 table-build-kinds.ps table-build-kinds.r table-build.Post)
+      × (now (c .args .0) ≡ list) × (now (c .args .1 .0) ≡ rows)
+      × (outcome (reply (c .result) (now (c .exit .1 .1 .0))) (now (c .exit .1 .0)) ≡ o);
+  table-save = λ rows n list o.
+      (c : Made 3 table-save-kinds.ps table-save-kinds.r table-save.Post)
+      × (now (c .args .0) ≡ rows) × (c .args .1 .0 ≡ n) × (now (c .args .1 .1 .0) ≡ list)
+      × (outcome (reply (c .result) (now (c .exit .1 .1 .1 .0))) (now (c .exit .1 .1 .0)) ≡ o);
+  table-runs = λ rows n runs o.
+      (c : Made 3 table-runs-kinds.ps table-runs-kinds.r table-runs.Post)
+      × (now (c .args .0) ≡ rows) × (c .args .1 .0 ≡ n) × (now (c .args .1 .1 .0) ≡ runs)
+      × (outcome (reply (c .result) (now (c .exit .1 .1 .1 .0))) (now (c .exit .1 .1 .0)) ≡ o);
+  image-build = λ stride list nodes ports x.
+      (c : Made 4 image-build-kinds.ps image-build-kinds.r image-build.Post)
+      × (c .args .0 ≡ stride) × (now (c .args .1 .0) ≡ list) × (now (c .args .1 .1 .0) ≡ nodes) × (now (c .args .1 .1 .1 .0) ≡ ports)
+      × (imaged (reply (c .result) (now (c .exit .1 .1 .1 .1 .0))) (now (c .exit .1 .1 .0)) (now (c .exit .1 .1 .1 .0)) ≡ x);
+  image-lookup = λ stride nodes ports address x.
+      LookedBy stride nodes ports address x
+      ⊎ (((stride ≡ 1) × LookedAt image-lookup-1.Post nodes ports address x)
+      ⊎ (((stride ≡ 2) × LookedAt image-lookup-2.Post nodes ports address x) ⊎ ((stride ≡ 4) × LookedAt image-lookup-4.Post nodes ports address x)));
+}

@@ -6,6 +6,7 @@ use native.Mathlib.Omega.{arith}
 use native.Mathlib.Nat.{zero-add}
 use native.Mathlib.Numerals.{add-one}
 use lib.ListN.{length, getD, length-append}
+use Rattle.lists.proofs.Flat.{flat-append}
 use Rattle.lists.specs.Numbered.{listOf}
 use Rattle.lists.proofs.Numbered.{list-of-snoc}
 use Rattle.runs_rules.specs.Runs.{Run, run, runWords}
@@ -34,8 +35,7 @@ line-le first last port h k l =
     )
 
 lines-snoc : (rs : List Run) (r : Run) → linesOf (rs ++ (r ∷ [])) ≡ linesOf rs ++ lineOf r
-lines-snoc [] r = append-nil (lineOf r)
-lines-snoc (q ∷ rs) r = ap (λ (s : List ℕ). lineOf q ++ s) (lines-snoc rs r) ∙ sym (append-assoc (lineOf q) (linesOf rs) (lineOf r))
+lines-snoc rs r = flat-append lineOf rs (r ∷ []) ∙ ap (λ (s : List ℕ). linesOf rs ++ s) (append-nil (lineOf r))
 
 pub lines-more : (R : ℕ → Run) (i : ℕ) → linesOf (listOf R i 0) ++ lineOf (R i) ≡ linesOf (listOf R (i + 1) 0)
 lines-more R i =

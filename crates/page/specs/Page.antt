@@ -5,6 +5,7 @@ use Prim.Native.Nat.{ℕ, _+_, _*_}
 use lib.Dec.{eqb, leb}
 use lib.ListN.{length, getD}
 use Rattle.promise.specs.Over.{Outcome, outcome, over}
+use Rattle.lists.specs.Flat.{flat}
 use Rattle.refusals.specs.Refusals.{noRoom, refused}
 use Rattle.refusals.specs.declared.Answer.{Answer}
 use Rattle.file_rules.specs.File.{fileRoute}
@@ -18,8 +19,7 @@ abbrev pub lineOf : Run → List ℕ
 lineOf r = address (r .first) ++ space ++ address (r .last) ++ space ++ numeral (r .port) ++ newline
 
 abbrev pub linesOf : List Run → List ℕ
-linesOf [] = []
-linesOf (r ∷ rs) = lineOf r ++ linesOf rs
+linesOf rs = flat lineOf rs
 
 -- "a line `runs` with the number of runs, then a line for each run"
 abbrev pub header : ℕ → List ℕ

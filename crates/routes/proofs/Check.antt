@@ -9,7 +9,7 @@ use lib.Dec.{eqb, leb}
 use lib.ListN.{length}
 use borrow.Author.Tests.{eq-eqb, ne-eqb, eqb-true, eqb-false, le-leb, lt-leb, leb-true, leb-false}
 use Rattle.lists.proofs.Tests.{way}
-use Rattle.refusals.specs.Refusals.{longPrefix, notAbove, refused}
+use Rattle.refusals.specs.Refusals.{longPrefix, notAbove, refused, accepted}
 use Rattle.routes.specs.Bounds.{mostRoutes}
 use Rattle.routes.specs.Routes.{routeAt, routeCount, ValidList, Words, Sized}
 use Rattle.routes.specs.Check.{above, faultAt, firstFault, routesCheck, listCheck}
@@ -65,6 +65,13 @@ valid-above w R n (suc i) ok h =
 valid-none : (w : ℕ) (R : ℕ → Route) (n : ℕ) → ValidList w R n → NoneBelow (faultAt w R) n
 valid-none w R n ok i h = none-fault w R i (valid-faultless w R i (ok .each i h) (valid-above w R n i ok h))
 
+-- words of valid routes alone are accepted
+pub valid-accepted : (w : ℕ) (words : List ℕ) → length words % 3 ≡ 0 → ValidList w (routeAt words) (routeCount words)
+    → listCheck w words ≡ accepted 0
+valid-accepted w words whole ok =
+    list-check-sized w words (record { whole = whole; few = ok .few })
+    ∙ first-fault-none (faultAt w (routeAt words)) (routeCount words) (valid-none w (routeAt words) (routeCount words) ok)
+
 -- what the check accepts, of words
 pub accepted-valid : (w : ℕ) (words : List ℕ) → Words w words → listCheck w words .number ≡ 0
     → ValidList w (routeAt words) (routeCount words)
@@ -78,9 +85,7 @@ check-done w words fits = (
   λ e.
       let z = ap (λ (a : Answer). a .number) e in
       (accepted-sized w words z .whole, accepted-valid w words fits z),
-  λ ok.
-      list-check-sized w words (record { whole = ok .0; few = ok .1 .few })
-      ∙ first-fault-none (faultAt w (routeAt words)) (routeCount words) (valid-none w (routeAt words) (routeCount words) (ok .1)),
+  λ ok. valid-accepted w words (ok .0) (ok .1),
 )
 
 pub check-refused : CheckRefused

@@ -7,12 +7,10 @@ use lib.ListN.{length}
 use Rattle.trie.specs.Scan.{plainScan}
 use Rattle.refusals.specs.Refusals.{accepted}
 use Rattle.routes.specs.Routes.{routeSize, routeAt, routeCount, ValidList}
-use Rattle.routes.specs.Check.{faultAt, listCheck}
+use Rattle.routes.specs.Check.{listCheck}
 use Rattle.routes.specs.Scan.{routeMatches}
 use Rattle.routes.specs.declared.Route.{Route}
-use Rattle.routes.proofs.Faults.{none-fault, valid-faultless}
-use Rattle.routes.proofs.First.{first-fault-none}
-use Rattle.routes.proofs.Check.{list-check-sized, valid-above}
+use Rattle.routes.proofs.Check.{valid-accepted}
 use Rattle.lists.proofs.Numbered.{list-of-same}
 use Rattle.runs_rules.specs.Runs.{Run, Lists, runs}
 use Rattle.runs_rules.specs.Listing.{listed}
@@ -39,13 +37,7 @@ module _ (w : ℕ) (R : ℕ → Route) (n : ℕ) (words : List ℕ) (size : leng
 
   pub words-accepted : ValidList w R n → listCheck w words ≡ accepted 0
   words-accepted ok =
-      list-check-sized w words (record { whole = omega (arith, size); few = rw count-is (ok .few) })
-      ∙ first-fault-none (faultAt w (routeAt words)) (routeCount words)
-      (λ i h. none-fault w (routeAt words) i
-      (valid-faultless w (routeAt words) i (valid .each i (omega (arith, count-is))) (valid-above w (routeAt words) n i valid (omega (arith, count-is)))))
-    where
-      valid : ValidList w (routeAt words) n
-      valid = valid-same w R (routeAt words) n same ok
+      valid-accepted w words (omega (arith, size)) (rw count-is (valid-same w R (routeAt words) n same ok))
 
   pub words-listed : listed w (routeAt words) (routeCount words) ≡ listed w R n
   words-listed = ap (λ (k : ℕ). listed w (routeAt words) k) count-is ∙ sym (listed-same w R (routeAt words) n same)

@@ -4,6 +4,7 @@ use mathlib.Core.Bool.{cond}
 use mathlib.Core.List.{List, [], _∷_}
 use Prim.Native.Nat.{ℕ, zero, suc, _+_, _-_, _≤_, _<_}
 use lib.Dec.{eqb}
+use Rattle.lists.specs.Flat.{flat}
 
 -- a run: first address, last address, port
 pub record Run : Type 0 where
@@ -47,6 +48,8 @@ abbrev pub runSize : ℕ
 runSize = 3
 
 -- "first address, last address, port"
+abbrev pub wordsOfRun : Run → List ℕ
+wordsOfRun r = r .first ∷ r .last ∷ r .port ∷ []
+
 abbrev pub runWords : List Run → List ℕ
-runWords [] = []
-runWords (r ∷ rs) = r .first ∷ r .last ∷ r .port ∷ runWords rs
+runWords rs = flat wordsOfRun rs

@@ -1,14 +1,15 @@
 -- A number read byte by byte, and shifted up to its place. Assumes nothing.
 use mathlib.Core.Path.{_≡_, refl, sym, ap, ap₂, _∙_}
 use mathlib.Core.List.{List, [], _∷_, _++_}
-use Prim.Native.Nat.{ℕ, _+_, _-_, _*_, _%_, _^_, _≤_, _<_}
+use Prim.Native.Nat.{ℕ, zero, suc, _+_, _-_, _*_, _/_, _%_, _^_, _≤_, _<_}
 use native.Mathlib.Omega.{arith}
 use native.Mathlib.Numerals.{add-one}
-use lib.Pow.{pow-add, pow-mono, shl-exact, shl-lt}
+use native.Mathlib.Nat.{add-zero, add-suc, div-one}
+use lib.Pow.{pow-add, pow-mono, shl-exact, shl-lt, shr-shr, shr-lt, high}
 use lib.ListN.{length, getD, take, drop, length-drop}
 use lib.Seq.{take-suc, getD-drop}
-use Rattle.file_rules.specs.Bytes.{number}
-use Rattle.file_rules.proofs.Bytes.{number-snoc}
+use Rattle.file_rules.specs.Bytes.{number, Bytes}
+use Rattle.file_rules.proofs.Bytes.{number-snoc, bytes-drop}
 use Rattle.file_read.specs.Needs.{ByteIs, NumberAt}
 
 module _ (file : List ℕ) (from : ℕ) where
@@ -38,6 +39,34 @@ module _ (file : List ℕ) (from : ℕ) where
   -- fewer than four bytes leave room for one more
   pub number-room : (j sum : ℕ) → j < 4 → NumberAt file from j sum → sum < 2 ^ 24
   number-room j sum h s = omega (arith, s .small, pow-mono {i = 8 * j} {j = 24} (omega arith))
+
+  -- of more bytes than k, the first k: the others shifted out
+  pub number-front : Bytes file → (k m : ℕ) → from + (k + m) ≤ length file
+      → number (take (k + m) (drop from file)) / 2 ^ (8 * m) ≡ number (take k (drop from file))
+  number-front bytes k zero h = rw (add-zero k) (div-one _)
+  number-front bytes k (suc m) h =
+      let b : ℕ = getD (drop from file) (k + m) 0 in
+      let N : ℕ = number (take (k + m) (drop from file)) in
+      let z : 8 + 8 * m ≡ 8 * suc m = omega arith in
+      let t : take (k + suc m) (drop from file) ≡ take (k + m) (drop from file) ++ (b ∷ []) =
+      rw (add-suc k m) (take-suc (drop from file) (k + m) 0 (rw (length-drop from file) (omega arith))) in
+      ap (λ (n : ℕ). number (take (k + suc m) (drop from file)) / 2 ^ n) (sym z)
+      ∙ sym (shr-shr (number (take (k + suc m) (drop from file))) 8 (8 * m))
+      ∙ ap (λ (n : ℕ). n / 2 ^ 8 / 2 ^ (8 * m)) (ap number t ∙ number-snoc (take (k + m) (drop from file)) b)
+      ∙ ap (λ (n : ℕ). n / 2 ^ (8 * m)) (high N 8 (bytes-drop file from bytes (k + m)))
+      ∙ number-front bytes k m (omega arith)
+
+  -- the first k of four bytes, as the code has them
+  pub front-is : Bytes file → (k all : ℕ) → k ≤ 4 → from + 4 ≤ length file → NumberAt file from 4 all
+      → NumberAt file from k (all / 2 ^ (32 - 8 * k))
+  front-is bytes k all few h x =
+      let four : k + (4 - k) ≡ 4 = omega arith in
+      let gap : 8 * (4 - k) ≡ 32 - 8 * k = omega arith in
+      let whole : 8 * k + (32 - 8 * k) ≡ 32 = omega arith in
+      record {
+        is = ap (λ (n : ℕ). n / 2 ^ (32 - 8 * k)) (x .is) ∙ rw (four, gap) at (number-front bytes k (4 - k) (omega arith));
+        small = shr-lt {n = all} (8 * k) (32 - 8 * k) (rw whole (x .small));
+      }
 
 -- a number of k bytes, shifted up to w bits, which is what the code computes at 64
 pub shifted : (w x k : ℕ) → w ≤ 64 → 8 * k ≤ w → x < 2 ^ (8 * k)

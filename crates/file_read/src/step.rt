@@ -72,8 +72,13 @@ fn value_from(file: &[u8], from: usize, len: u32) -> u32
     ensures { λ r. ⌜ r ≡ valueFrom 32 (now (file .entry)) from len ⌝ }
 {
     let k = prefix_bytes(len);
-    let high = number_at(file, from, k);
     let gap = 32 - 8 * k;
+    // Four bytes at once where there are so many, and those past the prefix shifted out: no loop whose end must be guessed.
+    if from + 4 <= file.len() {
+        let all = number_at(file, from, 4);
+        return ((all >> gap) << gap) as u32;
+    }
+    let high = number_at(file, from, k);
     (high << gap) as u32
 }
 

@@ -2,7 +2,7 @@
 use mathlib.Core.Path.{_≡_, sym, ap, ap₂, _∙_}
 use mathlib.Core.Bool.{true, false, false≢true}
 use mathlib.Core.List.{List}
-use Prim.Native.Nat.{ℕ, _/_, _≤_, _<_}
+use Prim.Native.Nat.{ℕ, _*_, _/_, _≤_, _<_}
 use native.Mathlib.Omega.{arith}
 use lib.ListN.{length}
 use borrow.Author.Tests.{le-leb, lt-leb}
@@ -15,12 +15,27 @@ use Rattle.refusals.specs.declared.Answer.{Answer}
 use Rattle.routes.proofs.Check.{accepted-valid}
 use Rattle.runs_rules.specs.Runs.{Run, runSize, runWords}
 use Rattle.runs_rules.specs.Listing.{listed, mostRuns, writeRuns, listRuns}
-use Rattle.runs_rules.proofs.Listing.{list-runs-accepted, list-runs-refused}
+use Rattle.runs_rules.proofs.Listing.{listed-few, never-too-many, list-runs-accepted, list-runs-refused}
 use Rattle.list_runs.specs.Needs.{Sweepable, Swept}
 
 -- the first sweep counts, and asks no room
 pub sweepable-to-count : {w : ℕ} {R : ℕ → Route} {n : ℕ} (lent : List ℕ) → ValidList w R n → Sweepable w R n lent false
 sweepable-to-count lent ok = record { valid = ok; room = λ t. absurd (false≢true t) }
+
+-- with room for 2n+1 runs there is room for the runs of n routes: they are written at once, and nothing is refused
+module _ {w : ℕ} {R : ℕ → Route} {n : ℕ} {lent : List ℕ} (ok : ValidList w R n) (roomy : 2 * n < length lent / runSize) where
+  pub sweepable-at-once : Sweepable w R n lent true
+  sweepable-at-once = record { valid = ok; room = λ t. omega (arith, listed-few w R n) }
+
+  module _ {count : ℕ} {left : List ℕ} (s : Swept (listed w R n) true count lent left) where
+    pub few-at-once : count ≤ mostRuns
+    few-at-once = omega (arith, s .counted, never-too-many w R n ok)
+
+    pub write-runs-at-once : {a : Answer} → a ≡ accepted count → outcome a left ≡ writeRuns (listed w R n) lent
+    unfolding writeRuns
+    write-runs-at-once {a} is =
+        ap₂ (λ (x : Answer) (ws : List ℕ). outcome x ws) (is ∙ ap accepted (s .counted)) (s .written)
+        ∙ simp (le-leb (length (listed w R n)) mostRuns (never-too-many w R n ok), le-leb (length (listed w R n)) (length lent / runSize) (omega (arith, listed-few w R n)))
 
 -- what it counted, in memory that it left as it was
 module _ {rs : List Run} {count : ℕ} {lent left : List ℕ} (s : Swept rs false count lent left) where

@@ -2,34 +2,37 @@
 use mathlib.Core.Path.{_≡_}
 use mathlib.Core.Bool.{Bool, true, cond}
 use mathlib.Core.List.{List}
-use Prim.Native.Nat.{ℕ, _+_, _*_, _^_, _≤_, _<_}
+use Prim.Native.Nat.{ℕ, suc, _+_, _-_, _*_, _^_, _≤_, _<_}
 use lib.ListN.{length, getD}
 use Rattle.promise.specs.Over.{over, storeThree}
+use Rattle.bits.specs.Prefix.{last}
 use Rattle.routes.specs.Routes.{ValidList}
-use Rattle.routes.specs.Scan.{scanOf, lastMatch}
+use Rattle.routes.specs.Scan.{lastMatch}
 use Rattle.routes.specs.declared.Route.{Route}
 use Rattle.runs_rules.specs.Runs.{Run, runSize, runWords}
 use Rattle.runs_rules.specs.Listing.{listed, mostRuns}
-use Rattle.list_runs.specs.Sweep.{look}
-use Rattle.list_runs.specs.declared.Stretch.{Stretch}
+use Rattle.list_runs.specs.Sweep.{look, turned, turnedLeft, goneOn, goneOnLeft}
+use Rattle.list_runs.specs.declared.OpenRun.{OpenRun}
+
+-- the end of a route before route i that is at least j bits long
+pub record Held (w : ℕ) (R : ℕ → Route) (i j e : ℕ) : Type 0 where
+  pub which : ℕ
+  pub earlier : which < i
+  pub long : j ≤ R which .len
+  pub end-is : e ≡ last w (R which .value) (R which .len)
 
 -- of the first i of n valid routes, the ones on the stack are those open at an address: they tell the port of every address
--- from there on, as far as these i routes go
-pub record Open (w : ℕ) (R : ℕ → Route) (n : ℕ) (stack : List ℕ) (depth i at : ℕ) : Type 0 where
+-- from there on, as far as these i routes go; below them is the whole space, to no port
+pub record Open (w : ℕ) (R : ℕ → Route) (n : ℕ) (ends ports : List ℕ) (depth i at : ℕ) : Type 0 where
   pub valid : ValidList w R n
   pub taken : i ≤ n
   pub deep : depth ≤ w + 1
-  pub size : length stack ≡ w + 1
-  pub there : at < 2 ^ w
-  pub held : (j : ℕ) → j < depth → (getD stack j 0 < i) × (j ≤ R (getD stack j 0) .len)
-  pub sees : (a : ℕ) → at ≤ a → lastMatch w R i a ≡ look w R stack depth a
-
--- the addresses from one on, up to the stretch's last, go to its port; the open routes are those it names
-pub record Stretched (w : ℕ) (R : ℕ → Route) (n at : ℕ) (stack : List ℕ) (s : Stretch) : Type 0 where
-  pub opened : Open w R n stack (s .depth) (s .next) at
-  pub ahead : at ≤ s .last
-  pub within : s .last < 2 ^ w
-  pub one-port : (x : ℕ) → at ≤ x → x ≤ s .last → scanOf w R n x ≡ s .port
+  pub size-ends : length ends ≡ w + 2
+  pub size-ports : length ports ≡ w + 2
+  pub whole : getD ends 0 0 ≡ 2 ^ w - 1
+  pub none : getD ports 0 0 ≡ 0
+  pub held : (j : ℕ) → j < depth → Held w R i j (getD ends (suc j) 0)
+  pub sees : (a : ℕ) → at ≤ a → lastMatch w R i a ≡ look ends ports depth a
 
 -- room for run k, where it is to be written
 pub record RoomFor (lent : List ℕ) (write : Bool) (k : ℕ) : Type 0 where
@@ -40,6 +43,16 @@ pub record RoomFor (lent : List ℕ) (write : Bool) (k : ℕ) : Type 0 where
 pub record Ended (lent : List ℕ) (write : Bool) (k first last port next : ℕ) (left : List ℕ) : Type 0 where
   pub next-is : next ≡ k + 1
   pub written : left ≡ cond write (storeThree lent (k * runSize) first last port) lent
+
+-- the open run goes on or ends, and is then written where that is asked
+pub record Turned (lent : List ℕ) (write : Bool) (run : OpenRun) (port : ℕ) (next : OpenRun) (left : List ℕ) : Type 0 where
+  pub run-is : next ≡ turned run port
+  pub written : left ≡ turnedLeft write lent run port
+
+-- the same, up to an address
+pub record GoneOn (lent : List ℕ) (write : Bool) (run : OpenRun) (to port : ℕ) (next : OpenRun) (left : List ℕ) : Type 0 where
+  pub run-is : next ≡ goneOn run to port
+  pub written : left ≡ goneOnLeft write lent run to port
 
 -- what the sweep may count on: a valid list, and room for all runs where it writes
 pub record Sweepable (w : ℕ) (R : ℕ → Route) (n : ℕ) (lent : List ℕ) (write : Bool) : Type 0 where

@@ -1,13 +1,10 @@
 // The run listing of a route list: one sweep over the addresses, with the routes that are open at the present one on a stack.
 ghost use mathlib.Core.Path.{_≡_};
-ghost use Prim.Native.Nat.{_≤_};
 ghost use Rattle.promise.specs.Over.{outcome};
-ghost use Rattle.prefix.specs.Prefixes.{prefix};
 ghost use Rattle.routes.specs.Routes.{routeAt, ValidList};
 ghost use Rattle.runs_rules.specs.Listing.{listed, writeRuns, listRuns};
-ghost use Rattle.list_runs.specs.Sweep.{firstOf, lastOf, portAt, topOf};
-ghost use Rattle.list_runs.specs.Needs.{Open, Stretched, RoomFor, Ended, Sweepable, Swept};
-use prefix::Prefix;
+ghost use Rattle.list_runs.specs.Sweep.{startOf};
+ghost use Rattle.list_runs.specs.Needs.{RoomFor, Ended, Turned, GoneOn, Sweepable, Swept};
 use refusals::Answer;
 use refusals::NO_ROOM;
 use refusals::TOO_MANY_RUNS;
@@ -24,106 +21,26 @@ const MOST_RUNS: usize = 8193;
 // The last of all addresses.
 const LAST_ADDRESS: u32 = 4294967295;
 
-// From an address on: the last address up to which the port stays, both included, and that port; which routes are then open,
-// and the next.
-struct Stretch {
-    last: u32,
+// As many routes as can be open at once, and the whole space below them: entry 0 of the stack.
+const STACK_SIZE: usize = 34;
+
+// The run that is open: its first address, the address after the last one it has, its port, and how many runs ended before
+// it. Before it has any address, both addresses are 0.
+struct OpenRun {
+    first: u32,
+    next: u32,
     port: u32,
-    depth: usize,
-    next: usize,
+    count: usize,
 }
 
-// The prefix of route k.
-fn prefix_of(list: &[u32], k: usize) -> Prefix
-    ensures { λ r. ⌜ r ≡ prefix (routeAt (now (list .entry)) k .value) (routeAt (now (list .entry)) k .len) ⌝ }
+// Where route i begins; past the n routes, the last of all addresses.
+fn start_of(list: &[u32], n: usize, i: usize) -> u32
+    ensures { λ r. ⌜ r ≡ startOf 32 (routeAt (now (list .entry))) n i ⌝ }
 {
-    route_at(list, k).prefix()
-}
-
-// The first address of route k.
-fn first_of(list: &[u32], k: usize) -> u32
-    ensures { λ r. ⌜ r ≡ firstOf 32 (routeAt (now (list .entry))) k ⌝ }
-{
-    prefix_of(list, k).first()
-}
-
-// The last address of route k; past the n routes, the last of all.
-fn last_of(list: &[u32], n: usize, k: usize) -> u32
-    ensures { λ r. ⌜ r ≡ lastOf 32 (routeAt (now (list .entry))) n k ⌝ }
-{
-    if k < n {
-        return prefix_of(list, k).last();
+    if i < n {
+        return route_at(list, i).prefix().first();
     }
     LAST_ADDRESS
-}
-
-// The port of route k; past the n routes, none.
-fn port_of(list: &[u32], n: usize, k: usize) -> u32
-    ensures { λ r. ⌜ r ≡ portAt (routeAt (now (list .entry))) n k ⌝ }
-{
-    if k < n {
-        return route_at(list, k).port;
-    }
-    0
-}
-
-// The innermost of the open routes, n if none is open.
-fn top_of(stack: &[usize; 33], depth: usize, n: usize) -> usize
-    requires { ⌜ depth ≤ 33 ⌝ }
-    ensures { λ r. ⌜ r ≡ topOf (now (stack .entry)) depth n ⌝ }
-{
-    if depth == 0 {
-        return n;
-    }
-    stack[depth - 1]
-}
-
-// The stretch of addresses from `at` on that go to one port. Routes that have ended are closed, routes that begin are opened,
-// until both the end of the innermost and the next beginning lie ahead.
-fn stretch_from(
-    list: &[u32],
-    n: usize,
-    stack: &mut [usize; 33],
-    depth: usize,
-    next: usize,
-    at: u32,
-) -> Stretch
-    requires { ⌜ Open 32 (routeAt (now list)) n (now stack) depth next at ⌝ }
-    ensures { λ r. ⌜ Stretched 32 (routeAt (now (list .entry))) n at (now (stack .exit)) r ⌝ }
-{
-    let mut deep = depth;
-    let mut i = next;
-    let mut start = first_of(list, i);
-    loop {
-        let top = top_of(stack, deep, n);
-        let stop = last_of(list, n, top);
-        if stop < at {
-            deep -= 1;
-            continue;
-        }
-        if (i < n) & (start <= at) {
-            stack[deep] = i;
-            deep += 1;
-            i += 1;
-            start = first_of(list, i);
-            continue;
-        }
-        let port = port_of(list, n, top);
-        if (i < n) & (start <= stop) {
-            return Stretch {
-                last: start - 1,
-                port,
-                depth: deep,
-                next: i,
-            };
-        }
-        return Stretch {
-            last: stop,
-            port,
-            depth: deep,
-            next: i,
-        };
-    }
 }
 
 // Writes run k where that is asked, and gives the number of the next.
@@ -141,33 +58,86 @@ fn end_run(runs: &mut [u32], k: usize, first: u32, last: u32, port: u32, write: 
     k + 1
 }
 
-// Counts the runs of the first n routes, and writes them where that is asked.
+// The next address goes to a port. Neighbours with one port join: the open run ends where another port begins.
+fn turn_to(runs: &mut [u32], run: OpenRun, port: u32, write: bool) -> OpenRun
+    requires { ⌜ RoomFor (now runs) write (run .count) ⌝ }
+    ensures { λ r. ⌜ Turned (now (runs .entry)) write run port r (now (runs .exit)) ⌝ }
+{
+    if (run.next == 0) | (port == run.port) {
+        return OpenRun {
+            first: run.first,
+            next: run.next,
+            port,
+            count: run.count,
+        };
+    }
+    let count = end_run(runs, run.count, run.first, run.next - 1, run.port, write);
+    OpenRun {
+        first: run.next,
+        next: run.next,
+        port,
+        count,
+    }
+}
+
+// All addresses before `to` that the open run does not have yet go to a port.
+fn go_on(runs: &mut [u32], run: OpenRun, to: u32, port: u32, write: bool) -> OpenRun
+    requires { ⌜ RoomFor (now runs) write (run .count) ⌝ }
+    ensures { λ r. ⌜ GoneOn (now (runs .entry)) write run to port r (now (runs .exit)) ⌝ }
+{
+    if to <= run.next {
+        return run;
+    }
+    let turned = turn_to(runs, run, port, write);
+    OpenRun {
+        first: turned.first,
+        next: to,
+        port,
+        count: turned.count,
+    }
+}
+
+// Counts the runs of the first n routes, and writes them where that is asked. Each turn closes the innermost of the open
+// routes, which ends before the next route begins, or else opens that; the addresses up to there are the innermost's.
 fn sweep(list: &[u32], n: usize, runs: &mut [u32], write: bool) -> usize
     requires { ⌜ Sweepable 32 (routeAt (now list)) n (now runs) write ⌝ }
     ensures { λ r. ⌜ Swept (listed 32 (routeAt (now (list .entry))) n) write r (now (runs .entry)) (now (runs .exit)) ⌝ }
 {
-    let mut stack = [0usize; 33];
-    let mut here = stretch_from(list, n, &mut stack, 0, 0, 0);
-    let mut first: u32 = 0;
-    let mut count: usize = 0;
-    while here.last < LAST_ADDRESS {
-        let at = here.last + 1;
-        let ahead = stretch_from(list, n, &mut stack, here.depth, here.next, at);
-        // Neighbours with one port join: a run goes on where the port stays.
-        if ahead.port == here.port {
-            here = ahead;
+    let mut ends = [LAST_ADDRESS; STACK_SIZE];
+    let mut ports = [0u32; STACK_SIZE];
+    let mut depth: usize = 0;
+    let mut run = OpenRun {
+        first: 0,
+        next: 0,
+        port: 0,
+        count: 0,
+    };
+    let mut i: usize = 0;
+    let mut start = start_of(list, n, 0);
+    loop {
+        let stop = ends[depth];
+        let port = ports[depth];
+        if stop < start {
+            run = go_on(runs, run, stop + 1, port, write);
+            depth -= 1;
             continue;
         }
-        count = end_run(runs, count, first, here.last, here.port, write);
-        first = at;
-        here = ahead;
+        if n <= i {
+            let last = turn_to(runs, run, port, write);
+            return end_run(runs, last.count, last.first, LAST_ADDRESS, port, write);
+        }
+        run = go_on(runs, run, start, port, write);
+        let route = route_at(list, i);
+        depth += 1;
+        ends[depth] = route.prefix().last();
+        ports[depth] = route.port;
+        i += 1;
+        start = start_of(list, n, i);
     }
-    end_run(runs, count, first, here.last, here.port, write)
 }
 
-// The runs of the first n routes of a list that is known to be valid. Refuses 13, more than 8,193 runs, and 9, no room for
-// them; else their words, and their number.
-fn write_runs(list: &[u32], n: usize, runs: &mut [u32]) -> Answer
+// Where the lent memory may be short for the runs, they are counted first, so that nothing is written before 9 is known.
+fn write_counted(list: &[u32], n: usize, runs: &mut [u32]) -> Answer
     requires { ⌜ ValidList 32 (routeAt (now list)) n ⌝ }
     ensures { λ r. ⌜ outcome r (now (runs .exit)) ≡ writeRuns (listed 32 (routeAt (now (list .entry))) n) (now (runs .entry)) ⌝ }
 {
@@ -180,6 +150,20 @@ fn write_runs(list: &[u32], n: usize, runs: &mut [u32]) -> Answer
     }
     sweep(list, n, runs, true);
     Answer::accepted(count as u32)
+}
+
+// The runs of the first n routes of a list that is known to be valid. Refuses 13, more than 8,193 runs, and 9, no room for
+// them; else their words, and their number. n routes have at most 2n+1 runs: with room for those, nothing is refused.
+pub fn write_runs(list: &[u32], n: usize, runs: &mut [u32]) -> Answer
+    requires { ⌜ ValidList 32 (routeAt (now list)) n ⌝ }
+    ensures { λ r. ⌜ outcome r (now (runs .exit)) ≡ writeRuns (listed 32 (routeAt (now (list .entry))) n) (now (runs .entry)) ⌝ }
+{
+    let room = runs.len() / RUN_SIZE;
+    if 2 * n < room {
+        let count = sweep(list, n, runs, true);
+        return Answer::accepted(count as u32);
+    }
+    write_counted(list, n, runs)
 }
 
 // The run listing of a list: three words a run, first address, last address, port; and their number. Refuses as the list

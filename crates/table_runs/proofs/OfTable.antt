@@ -1,13 +1,12 @@
 -- The listing of a table is that of its saved list, and so of the routes that it holds: RULES, "The run listing". Assumes nothing.
-use mathlib.Core.Path.{_≡_, refl, sym, ap, ap₂, _∙_}
+use mathlib.Core.Path.{_≡_, refl, sym, ap, _∙_}
 use mathlib.Core.Logic.{_⊎_, inl, inr}
 use mathlib.Core.Bool.{true, false}
-use mathlib.Core.List.{List, [], append-nil}
+use mathlib.Core.List.{List}
 use Prim.Native.Nat.{ℕ, _*_, _/_, _^_, _≤_, _<_}
 use native.Mathlib.Omega.{arith}
 use native.Mathlib.Nat.{min-le-left}
-use lib.ListN.{length, take, drop}
-use lib.Seq.{take-at}
+use lib.ListN.{length, drop}
 use borrow.Author.Tests.{le-leb}
 use Rattle.promise.specs.Over.{Outcome, outcome, over}
 use Rattle.bits.specs.Bits.{bits}
@@ -15,7 +14,7 @@ use Rattle.lists.proofs.Tests.{way}
 use Rattle.trie.specs.Scan.{scan}
 use Rattle.refusals.specs.Refusals.{notInOrder, refused, accepted}
 use Rattle.routes.specs.Bounds.{mostRoutes}
-use Rattle.routes.specs.Routes.{route, routeSize, routeAt, wordsOf}
+use Rattle.routes.specs.Routes.{route, routeSize, routeAt, wordsOf, ValidList}
 use Rattle.routes.specs.Scan.{scanOf}
 use Rattle.refusals.specs.declared.Answer.{Answer}
 use Rattle.table_rows.specs.Words.{rowCount}
@@ -30,12 +29,12 @@ use Rattle.table_rules.proofs.Save.{saved-is}
 use Rattle.table_rules.proofs.SavedLookup.{lookup-is-saved-scan}
 use Rattle.table_rules.proofs.Lookup.{lookup-is-scan}
 use Rattle.refusals.specs.declared.found.Found.{Found}
-use Rattle.routes.proofs.Words.{get-words-at, length-words}
+use Rattle.routes.proofs.Words.{get-words-at}
 use Rattle.runs_rules.specs.Runs.{Run, runSize}
-use Rattle.runs_rules.specs.Listing.{listed, mostRuns, writeRuns, listRuns}
+use Rattle.runs_rules.specs.Listing.{listed, mostRuns, writeRuns}
 use Rattle.runs_rules.proofs.Runs.{listing-unique}
-use Rattle.runs_rules.proofs.Listing.{listed-lists, list-runs-accepted, never-too-many}
-use Rattle.runs_rules.proofs.Same.{words-accepted, words-listed, lists-same}
+use Rattle.runs_rules.proofs.Listing.{listed-lists, never-too-many}
+use Rattle.runs_rules.proofs.Same.{listed-same, valid-same, lists-same}
 use Rattle.table_runs.specs.TableRuns.{tableRoutes, tableRuns}
 use Rattle.table_runs.specs.Theorems.{TableRunsDone, TableRunsRefused}
 
@@ -62,23 +61,6 @@ module _ (w capacity : ℕ) (M : Mem) (n : ℕ) (small : capacity ≤ mostRoutes
       → saveInto w capacity M n list ≡ outcome (accepted n) (over (wordsOf (saved w M n)) list)
   unfolding saveInto
   save-done list size = rw (fine, le-leb (n * routeSize) (length list) (omega (arith, few, size)))
-
-  -- the words of its routes
-  abbrev words : List ℕ
-  words = wordsOf (saved w M n)
-
-  length-saved : length words ≡ n * routeSize
-  length-saved = length-words (saved w M n) ∙ ap (λ (k : ℕ). k * routeSize) (well .size)
-
-  saved-routes : (i : ℕ) → i < n → tableRoutes w M n i ≡ routeAt words i
-  saved-routes i h =
-      sym (get-words-at (saved w M n) [] i (route 0 0 0) (omega (arith, well .size)))
-      ∙ ap (λ (ws : List ℕ). routeAt ws i) (append-nil words)
-
-  list-runs-saved : (lent : List ℕ) → listRuns w words lent ≡ writeRuns (listed w (tableRoutes w M n) n) lent
-  list-runs-saved lent =
-      list-runs-accepted w words lent (ap (λ (x : Answer). x .number) (words-accepted w (tableRoutes w M n) n words length-saved saved-routes (well .list)))
-      ∙ ap (λ (rs : List Run). writeRuns rs lent) (words-listed w (tableRoutes w M n) n words length-saved saved-routes)
 
 -- what the saving of a table into room for 4,096 routes answers and leaves
 module _ (w capacity : ℕ) (M : Mem) (n : ℕ) (small : capacity ≤ mostRoutes) (list : List ℕ) (size : length list ≡ mostRoutes * routeSize)
@@ -115,17 +97,23 @@ module _ (w capacity : ℕ) (M : Mem) (n : ℕ) (small : capacity ≤ mostRoutes
     pub count-le : a .count ≤ mostRoutes
     count-le = omega (arith, count, few w capacity M n small (is-good z))
 
-    -- the part of the list that was saved
-    part : take (a .count * routeSize) left ≡ wordsOf (saved w M n)
-    part =
-        ap₂ (λ (k : ℕ) (ws : List ℕ). take (k * routeSize) ws) count (ap (λ (o : Outcome Answer). o .lent) (answer-good (is-good z)))
-        ∙ take-at (wordsOf (saved w M n)) (drop (length (wordsOf (saved w M n))) list) (n * routeSize) (length-saved w capacity M n small (is-good z))
+    -- the routes in front of what is left in the list
+    routes-left : (i : ℕ) → i < n → tableRoutes w M n i ≡ routeAt left i
+    routes-left i h =
+        sym
+        (ap (λ (o : Outcome Answer). routeAt (o .lent) i) (answer-good (is-good z))
+        ∙ get-words-at (saved w M n) (drop (length (wordsOf (saved w M n))) list) i (route 0 0 0) (omega (arith, well w capacity M n small (is-good z) .size)))
 
-    pub saved-listed : (lent : List ℕ) {o : Outcome Answer} → o ≡ listRuns w (take (a .count * routeSize) left) lent
+    pub saved-valid : ValidList w (routeAt left) (a .count)
+    saved-valid = rw count (valid-same w (tableRoutes w M n) (routeAt left) n routes-left (well w capacity M n small (is-good z) .list))
+
+    pub saved-listed : (lent : List ℕ) {o : Outcome Answer} → o ≡ writeRuns (listed w (routeAt left) (a .count)) lent
         → o ≡ tableRuns w capacity M n lent
     unfolding tableRuns
     saved-listed lent e =
-        e ∙ ap (λ (ws : List ℕ). listRuns w ws lent) part ∙ list-runs-saved w capacity M n small (is-good z) lent
+        e
+        ∙ ap (λ (rs : List Run). writeRuns rs lent)
+        (ap (λ (k : ℕ). listed w (routeAt left) k) count ∙ sym (listed-same w (tableRoutes w M n) (routeAt left) n routes-left))
         ∙ sym (rw (is-good z) refl)
 
 pub table-runs-done : TableRunsDone

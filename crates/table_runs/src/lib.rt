@@ -3,7 +3,7 @@ ghost use mathlib.Core.Path.{_≡_};
 ghost use Rattle.promise.specs.Over.{outcome};
 ghost use Rattle.table_rows.specs.Words.{capacity, rowAt};
 ghost use Rattle.table_runs.specs.TableRuns.{tableRuns};
-use list_runs::list_runs;
+use list_runs::write_runs;
 use refusals::Answer;
 use routes::MOST_ROUTES;
 use routes::ROUTE_SIZE;
@@ -22,6 +22,7 @@ pub fn table_runs(rows: &[u32], n: u32, runs: &mut [u32]) -> Answer
     if saved.number != 0 {
         return saved;
     }
-    let size = saved.count as usize * ROUTE_SIZE;
-    list_runs(&list[..size], runs)
+    // What a table in good order is saved as is a valid list: it is not checked again.
+    let count = saved.count as usize;
+    write_runs(&list, count, runs)
 }

@@ -1,10 +1,6 @@
-use mathlib.Core.Path.{refl, sym}
-use Prim.Native.Nat.{_≤_}
-use native.Mathlib.Omega.{arith}
-use lib.Seq.{length-take-le}
-use Rattle.routes.specs.Bounds.{mostRoutes}
+use mathlib.Core.Path.{refl}
 use Rattle.table_rows.specs.Words.{capacity, rowAt}
-use Rattle.table_runs.proofs.OfTable.{capacity-le, saved-refused, count-le, saved-listed}
+use Rattle.table_runs.proofs.OfTable.{capacity-le, saved-refused, saved-valid, saved-listed}
 use borrow.Author.Needs.{needs}
 use Rattle.table_runs.proofs.table_runs.Statement.{statement}
 use Rattle.table_runs.proofs.table_runs.Tie as tie
@@ -21,27 +17,17 @@ returns c =
     let ws = a .rows .now in
     saved-refused 32 (capacity ws) (rowAt ws) (a .n) (capacity-le ws) _ refl (c .before .before .before .save .ensures) _ (c .if1 .taken)
 
-cast-size : tie.Need-cast-size
-cast-size c = search needs
+cast-count : tie.Need-cast-count
+cast-count c = search needs
 
-mul-size : tie.Need-mul-size
-mul-size c = search needs
+slice-aggregate-write-runs : tie.Need-slice-aggregate-write-runs
+slice-aggregate-write-runs c = search needs
 
--- no more routes were saved than there is room for
-routes-le : (c : tie.After-struct-known2) → c .before .before .before .before .save .result .count ≤ mostRoutes
-routes-le c =
-    let a = c .before .before .before .before .before .before .before .before .args in
+write-runs-requires : tie.Need-write-runs-requires
+write-runs-requires c κs =
+    let a = c .before .before .before .before .before .before .before .before .before .before .args in
     let ws = a .rows .now in
-    count-le 32 (capacity ws) (rowAt ws) (a .n) (capacity-le ws) _ refl (c .before .before .before .before .save .ensures) (c .before .if1 .left)
-
-array-share-prefix-list : tie.Need-array-share-prefix-list
-array-share-prefix-list c = omega (arith, routes-le c)
-
-slice-aggregate-list-runs : tie.Need-slice-aggregate-list-runs
-slice-aggregate-list-runs c = sym (length-take-le _ _ (omega (arith, routes-le (c .before))))
-
-list-runs-requires : tie.Need-list-runs-requires
-list-runs-requires c κs = search needs
+    saved-valid 32 (capacity ws) (rowAt ws) (a .n) (capacity-le ws) _ refl (c .before .before .before .before .before .before .save .ensures) (c .before .before .before .if1 .left)
 
 same-length : tie.Need-same-length
 same-length c = search needs
@@ -50,7 +36,7 @@ returns-2 : tie.Need-returns-2
 returns-2 c =
     let a = c .before .before .before .before .before .before .before .before .before .before .before .before .before .args in
     let ws = a .rows .now in
-    saved-listed 32 (capacity ws) (rowAt ws) (a .n) (capacity-le ws) _ refl (c .before .before .before .before .before .before .before .before .before .save .ensures) (c .before .before .before .before .before .before .if1 .left) _ (c .before .before .list-runs .ensures)
+    saved-listed 32 (capacity ws) (rowAt ws) (a .n) (capacity-le ws) _ refl (c .before .before .before .before .before .before .before .before .before .save .ensures) (c .before .before .before .before .before .before .if1 .left) _ (c .before .before .write-runs .ensures)
 
 pub table-runs-spec : {M : Type 1} → statement M
 table-runs-spec =
@@ -59,10 +45,8 @@ table-runs-spec =
     slice-aggregate-save
     save-requires
     returns
-    cast-size
-    mul-size
-    array-share-prefix-list
-    slice-aggregate-list-runs
-    list-runs-requires
+    cast-count
+    slice-aggregate-write-runs
+    write-runs-requires
     same-length
     returns-2)

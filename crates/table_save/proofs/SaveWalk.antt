@@ -2,12 +2,12 @@
 -- Assumes nothing.
 use mathlib.Core.Path.{_≡_, refl, sym, ap, ap₂, _∙_, subst}
 use mathlib.Core.Bool.{Bool, true, false, cond}
-use mathlib.Core.List.{List, [], _∷_, _++_}
+use mathlib.Core.List.{List, [], _∷_, _++_, append-assoc}
 use Prim.Native.Nat.{ℕ, zero, suc, _+_, _-_, _*_, _<_, _≤_}
 use native.Mathlib.Omega.{arith}
 use native.Mathlib.Nat.{add-zero, zero-add}
 use lib.ListN.{length, drop, length-append}
-use lib.Seq.{sets, sets-eq}
+use lib.Seq.{sets, sets-eq, set-getD}
 use borrow.Author.Tests.{eq-eqb, ne-eqb, le-leb, lt-leb}
 use Rattle.promise.specs.Over.{over, outcome}
 use Rattle.refusals.specs.Refusals.{noRoom, notInOrder, refused, accepted}
@@ -16,7 +16,7 @@ use Rattle.routes.specs.declared.Route.{Route}
 use Rattle.table_rules.specs.Rows.{Mem, child, routeOf}
 use Rattle.table_rules.specs.Check.{isGood}
 use Rattle.table_rules.specs.Save.{insertRoute, savedAt, saveInto}
-use Rattle.routes.specs.Routes.{wordsOf, storeRoute}
+use Rattle.routes.specs.Routes.{routeAt, wordsOf, storeRoute}
 use Rattle.table_rules.specs.declared.Row.{Row}
 use Rattle.table_rules.specs.Walk.{savedBelow}
 use Rattle.table_rules.specs.Ascending.{Ascending}
@@ -26,8 +26,8 @@ use Rattle.table_rules.proofs.Save.{good-savable, saved-is}
 use Rattle.table_rules.proofs.Ascending.{length-insert}
 use Rattle.routes.proofs.Words.{length-words, words-append, store-sets}
 use Rattle.lists.proofs.Sets.{sets-append}
-use Rattle.table_save.specs.Writing.{sunk, WroteRoutes}
-use Rattle.table_save.proofs.Insertion.{sunk-is}
+use Rattle.table_save.specs.Writing.{placed, WroteRoutes}
+use Rattle.table_save.proofs.Insertion.{placed-is}
 
 pub ready-row : (M : Mem) (room k r : ℕ) → Savable M room k r → r < room
 unfolding Savable
@@ -99,18 +99,30 @@ wrote-both xs ys at middle end lent mid left h k = record {
       ∙ ap (sets lent (at * 3)) (sym (words-append xs ys));
 }
 
--- The code's values: `middle` and `end` are where the sides ended, `mid` and `low` the list then, q the row's route.
+-- a place that is left as it is
+wrote-free : (ws : List ℕ) (i : ℕ) → WroteRoutes (routeAt ws i ∷ []) i (i + 1) ws ws
+wrote-free ws i =
+    let e : i * 3 + 1 ≡ suc (i * 3) = omega arith in
+    let f : i * 3 + 2 ≡ suc (suc (i * 3)) = omega arith in
+    record {
+      end = refl;
+      words = sym (rw (e, f, set-getD ws (i * 3) 0, set-getD ws (suc (i * 3)) 0, set-getD ws (suc (suc (i * 3))) 0) refl);
+    }
+
+-- The code's values: `middle` and `end` are where the sides ended, with a free place between them, `mid` and `low` the list then,
+-- q the row's route.
 pub wrote-more : (M : Mem) (room k r at : ℕ) (x : Row) (middle end : ℕ) (lent mid low left : List ℕ) (q : Route)
     → (k ≡ 0 → ⊥) → x ≡ M r → Savable M room k r → (at + length (savedAt M k r)) * 3 ≤ length lent
-    → WroteRoutes (savedBelow M (k - 1) (x .left)) at middle lent mid → WroteRoutes (savedBelow M (k - 1) (x .right)) middle end mid low
-    → q ≡ routeOf x → left ≡ sunk low at (end - at) q → WroteRoutes (savedAt M k r) at (end + 1) lent left
+    → WroteRoutes (savedBelow M (k - 1) (x .left)) at middle lent mid → WroteRoutes (savedBelow M (k - 1) (x .right)) (middle + 1) end mid low
+    → q ≡ routeOf x → left ≡ placed low at middle end q → WroteRoutes (savedAt M k r) at end lent left
 wrote-more M room k r at x middle end lent mid low left q ne is ready room-for wl wr eq e = record {
-  end = omega (arith, both .end, length-append L R, size-more M k r x ne is);
+  end = omega (arith, wl .end, wr .end, size-more M k r x ne is);
   words =
       e
-      ∙ ap₂ (λ (ws : List ℕ) (i : ℕ). sunk ws at i q) (both .words) count
-      ∙ sunk-is lent at q (L ++ R) (ready-rises M room k r x ne is ready)
-      (omega (arith, length-append L R, size-more M k r x ne is))
+      ∙ ap (λ (ws : List ℕ). placed ws at middle end q)
+      (both .words ∙ ap (λ (rs : List Route). sets lent (at * 3) (wordsOf rs)) (append-assoc L (h ∷ []) R))
+      ∙ ap₂ (λ (i j : ℕ). placed (sets lent (at * 3) (wordsOf (L ++ (h ∷ R)))) at i j q) (wl .end) (wr .end ∙ ap (λ (i : ℕ). i + 1 + length R) (wl .end))
+      ∙ placed-is lent at q h L R (ready-rises M room k r x ne is ready) (omega (arith, size-more M k r x ne is))
       ∙ ap (λ (rs : List Route). sets lent (at * 3) (wordsOf rs))
       (ap (λ (y : Route). insertRoute y (L ++ R)) eq ∙ sym (saved-more M k r x ne is));
 }
@@ -121,11 +133,11 @@ wrote-more M room k r at x middle end lent mid low left q ne is ready room-for w
     R : List Route
     R = savedBelow M (k - 1) (x .right)
 
-    both : WroteRoutes (L ++ R) at end lent low
-    both = wrote-both L R at middle end lent mid low wl wr
+    h : Route
+    h = routeAt mid middle
 
-    count : end - at ≡ length (L ++ R)
-    count = omega (arith, both .end)
+    both : WroteRoutes (L ++ (h ∷ []) ++ R) at end lent low
+    both = wrote-both (L ++ (h ∷ [])) R at (middle + 1) end lent mid low (wrote-both L (h ∷ []) at middle (middle + 1) lent mid mid wl (wrote-free mid middle)) wr
 
 -- the routes below a row on one side
 

@@ -1,5 +1,5 @@
-// Saving a table as a list. The walk writes the routes in ascending order: what lies to the left, what lies to the right, and
-// then the row's own route into its place among them. A route moves up at most once for each row above it.
+// Saving a table as a list. The walk writes the routes in ascending order: what lies to the left, a free place, what lies to the
+// right, and then the row's own route into its place among them. Only the routes between that and the free place move by one.
 ghost use mathlib.Core.Path.{_≡_};
 ghost use Prim.Native.Nat.{_+_, _-_, _*_, _<_, _≤_};
 ghost use lib.ListN.{length};
@@ -10,17 +10,16 @@ ghost use Rattle.table_rows.specs.Words.{rowCount, capacity, rowAt};
 ghost use Rattle.table_rules.specs.Save.{savedAt, saveInto};
 ghost use Rattle.table_rules.specs.Walk.{savedBelow};
 ghost use Rattle.table_rules.specs.Savable.{Savable};
-ghost use Rattle.table_save.specs.Writing.{sunk, WroteRoutes};
-ghost use Rattle.routes.specs.Routes.{storeRoute};
+ghost use Rattle.table_save.specs.Writing.{sunk, risen, allBefore, placed, WroteRoutes};
+ghost use Rattle.routes.specs.Routes.{routeAt, storeRoute};
 use refusals::Answer;
 use refusals::NO_ROOM;
 use refusals::NOT_IN_ORDER;
+use routes::ROUTE_SIZE;
 use routes::Route;
-use routes::route_at;
-use routes::store_route;
 use table_lookup::is_good;
 use table_rows::route_of;
-use table_rows::row_at;
+use table_rows::whole_row;
 use table_rules::Row;
 
 // Whether a route stands before another in a list.
@@ -30,22 +29,89 @@ fn stands_before(a: Route, b: Route) -> bool
     a.prefix().precedes(b.prefix())
 }
 
-// Puts a route into its place among the routes from `at` to `end`: each that stands after it moves up by one.
+// Route i of a list, which is lent whole.
+fn whole_route(list: &[u32], i: usize) -> Route
+    requires { ⌜ i * 3 + 3 ≤ length (now list) ⌝ }
+    ensures { λ r. ⌜ r ≡ routeAt (now (list .entry)) i ⌝ }
+{
+    let at = i * ROUTE_SIZE;
+    Route {
+        value: list[at],
+        len: list[at + 1],
+        port: list[at + 2],
+    }
+}
+
+// Stores route i of a list, which is lent whole; no other word changes.
+fn store_whole(list: &mut [u32], i: usize, r: Route)
+    requires { ⌜ i * 3 + 3 ≤ length (now list) ⌝ }
+    ensures { λ _. ⌜ now (list .exit) ≡ storeRoute (now (list .entry)) i r ⌝ }
+{
+    let at = i * ROUTE_SIZE;
+    list[at] = r.value;
+    list[at + 1] = r.len;
+    list[at + 2] = r.port;
+}
+
+// Puts a route into its place among the routes from `at` up to `end`, which is free: each that stands after it moves up by one.
 fn sink_route(list: &mut [u32], at: usize, end: usize, q: Route)
-    requires { ⌜ (at ≤ end) × (end * 3 + 2 < length (now list)) ⌝ }
+    requires { ⌜ (at ≤ end) × (end * 3 + 3 ≤ length (now list)) ⌝ }
     ensures { λ _. ⌜ now (list .exit) ≡ sunk (now (list .entry)) at (end - at) q ⌝ }
 {
     let mut i = end;
     while at < i {
-        let before = route_at(list, i - 1);
+        let before = whole_route(list, i - 1);
         if stands_before(before, q) {
-            store_route(list, i, q);
+            store_whole(list, i, q);
             return;
         }
-        store_route(list, i, before);
+        store_whole(list, i, before);
         i -= 1;
     }
-    store_route(list, i, q);
+    store_whole(list, i, q);
+}
+
+// Puts a route into its place among the routes from `at`, which is free, up to `end`: each that stands before it moves down by
+// one.
+fn rise_route(list: &mut [u32], at: usize, end: usize, q: Route)
+    requires { ⌜ (at < end) × (end * 3 ≤ length (now list)) ⌝ }
+    ensures { λ _. ⌜ now (list .exit) ≡ risen (now (list .entry)) at (end - (at + 1)) q ⌝ }
+{
+    let mut i = at;
+    while i + 1 < end {
+        let after = whole_route(list, i + 1);
+        if stands_before(after, q) {
+            store_whole(list, i, after);
+            i += 1;
+            continue;
+        }
+        store_whole(list, i, q);
+        return;
+    }
+    store_whole(list, i, q);
+}
+
+// Whether the routes from `at` up to `middle`, which ascend, all stand before a route.
+fn all_before(list: &[u32], at: usize, middle: usize, q: Route) -> bool
+    requires { ⌜ middle * 3 ≤ length (now list) ⌝ }
+    ensures { λ r. ⌜ r ≡ allBefore (now (list .entry)) at middle q ⌝ }
+{
+    if middle <= at {
+        return true;
+    }
+    stands_before(whole_route(list, middle - 1), q)
+}
+
+// Puts a route into its place among the routes from `at` up to `end`, of which the one at `middle` is free.
+fn place_route(list: &mut [u32], at: usize, middle: usize, end: usize, q: Route)
+    requires { ⌜ (at ≤ middle) × (middle < end) × (end * 3 ≤ length (now list)) ⌝ }
+    ensures { λ _. ⌜ now (list .exit) ≡ placed (now (list .entry)) at middle end q ⌝ }
+{
+    if all_before(list, at, middle, q) {
+        rise_route(list, middle, end, q);
+        return;
+    }
+    sink_route(list, at, middle, q);
 }
 
 // Writes the routes from a row on, with `left` bits after its depth, from route `at` of the list on. Answers where it ended.
@@ -53,15 +119,15 @@ fn save_at(rows: &[u32], left: u32, row: u32, list: &mut [u32], at: usize) -> us
     requires { ⌜ Savable (rowAt (now rows)) (rowCount (now rows)) left row × ((at + length (savedAt (rowAt (now rows)) left row)) * 3 ≤ length (now list)) ⌝ }
     ensures { λ r. ⌜ WroteRoutes (savedAt (rowAt (now (rows .entry))) left row) at r (now (list .entry)) (now (list .exit)) ⌝ }
 {
-    let x = row_at(rows, row);
+    let x = whole_row(rows, row);
     if left == 0 {
-        store_route(list, at, route_of(x));
+        store_whole(list, at, route_of(x));
         return at + 1;
     }
     let middle = save_below(rows, left - 1, x.left, list, at);
-    let end = save_below(rows, left - 1, x.right, list, middle);
-    sink_route(list, at, end, route_of(x));
-    end + 1
+    let end = save_below(rows, left - 1, x.right, list, middle + 1);
+    place_route(list, at, middle, end, route_of(x));
+    end
 }
 
 // The routes below a row on one side; 0 as a child means none.

@@ -15,10 +15,10 @@ use Rattle.table_save.proofs.+save_at+save_below.Lts-save_at as save-at
 use Rattle.table_save.proofs.save_below.Reads as save-below
 use Rattle.table_save.proofs.save_below.Kinds as save-below-kinds
 use Rattle.table_save.proofs.+save_at+save_below.Lts-save_below as save-below-lts
-use Rattle.table_rows.proofs.row_at.Reads as row-at-reads
-use Rattle.routes.proofs.store_route.Reads as store-route-reads
+use Rattle.table_rows.proofs.whole_row.Reads as whole-row-reads
+use Rattle.table_save.proofs.store_whole.Reads as store-whole-reads
 use Rattle.table_rows.proofs.route_of.Reads as route-of-reads
-use Rattle.table_save.proofs.sink_route.Reads as sink-route-reads
+use Rattle.table_save.proofs.place_route.Reads as place-route-reads
 use Rattle.table_save.proofs.+save_at+save_below.{statement}
 use Rattle.table_save.proofs.+save_at+save_below.Tie.{close}
 
@@ -42,89 +42,93 @@ abbrev save-below-below : ℕ → In 2 save-below-kinds.ps
 save-below-below t =
     and 2 save-below-kinds.ps (falls 2 save-below-kinds.ps _<_ μ-save-below t) save-below.Pre
 
-save-at-row-at-requires : (t : ℕ) → save-at-lts.Need-row-at-requires (
-  row-at-reads.Asked,
-  row-at-reads.Learnt,
+save-at-whole-row-requires : (t : ℕ) → save-at-lts.Need-whole-row-requires (
+  whole-row-reads.Asked,
+  whole-row-reads.Learnt,
   route-of-reads.Asked,
   route-of-reads.Learnt,
-  store-route-reads.Asked,
-  store-route-reads.Learnt,
+  store-whole-reads.Asked,
+  store-whole-reads.Learnt,
   save-below-below t,
   save-below.Post,
-  sink-route-reads.Asked,
-  sink-route-reads.Learnt,
+  place-route-reads.Asked,
+  place-route-reads.Learnt,
 ) (save-at-at t) save-at.Post
-save-at-row-at-requires t c κs = search needs
+save-at-whole-row-requires t c κs =
+    let a = c .before .before in
+    ready-row (rowAt (a .args .rows .now)) (rowCount (a .args .rows .now)) (a .args .left) (a .args .row) (a .pre .1 .0)
 
 save-at-route-of-requires : (t : ℕ) → save-at-lts.Need-route-of-requires (
-  row-at-reads.Asked,
-  row-at-reads.Learnt,
+  whole-row-reads.Asked,
+  whole-row-reads.Learnt,
   route-of-reads.Asked,
   route-of-reads.Learnt,
-  store-route-reads.Asked,
-  store-route-reads.Learnt,
+  store-whole-reads.Asked,
+  store-whole-reads.Learnt,
   save-below-below t,
   save-below.Post,
-  sink-route-reads.Asked,
-  sink-route-reads.Learnt,
+  place-route-reads.Asked,
+  place-route-reads.Learnt,
 ) (save-at-at t) save-at.Post
 save-at-route-of-requires t c κs = search needs
 
-save-at-store-route-requires : (t : ℕ) → save-at-lts.Need-store-route-requires (
-  row-at-reads.Asked,
-  row-at-reads.Learnt,
+save-at-store-whole-requires : (t : ℕ) → save-at-lts.Need-store-whole-requires (
+  whole-row-reads.Asked,
+  whole-row-reads.Learnt,
   route-of-reads.Asked,
   route-of-reads.Learnt,
-  store-route-reads.Asked,
-  store-route-reads.Learnt,
+  store-whole-reads.Asked,
+  store-whole-reads.Learnt,
   save-below-below t,
   save-below.Post,
-  sink-route-reads.Asked,
-  sink-route-reads.Learnt,
+  place-route-reads.Asked,
+  place-route-reads.Learnt,
 ) (save-at-at t) save-at.Post
-save-at-store-route-requires t c κs = search needs
+save-at-store-whole-requires t c κs =
+    let a = c .before .before .before .before .before .before in
+    omega (arith, size-last (rowAt (a .args .rows .now)) (a .args .left) (a .args .row) (c .before .before .if1 .taken), a .pre .1 .1)
 
 save-at-add-result : (t : ℕ) → save-at-lts.Need-add-result (
-  row-at-reads.Asked,
-  row-at-reads.Learnt,
+  whole-row-reads.Asked,
+  whole-row-reads.Learnt,
   route-of-reads.Asked,
   route-of-reads.Learnt,
-  store-route-reads.Asked,
-  store-route-reads.Learnt,
+  store-whole-reads.Asked,
+  store-whole-reads.Learnt,
   save-below-below t,
   save-below.Post,
-  sink-route-reads.Asked,
-  sink-route-reads.Learnt,
+  place-route-reads.Asked,
+  place-route-reads.Learnt,
 ) (save-at-at t) save-at.Post
 save-at-add-result t c =
     let a = c .before .before .before .before .before .before .before .before .before in
     omega (arith, size-last (rowAt (a .args .rows .now)) (a .args .left) (a .args .row) (c .before .before .before .before .before .if1 .taken), a .pre .1 .1)
 
 save-at-same-length : (t : ℕ) → save-at-lts.Need-same-length (
-  row-at-reads.Asked,
-  row-at-reads.Learnt,
+  whole-row-reads.Asked,
+  whole-row-reads.Learnt,
   route-of-reads.Asked,
   route-of-reads.Learnt,
-  store-route-reads.Asked,
-  store-route-reads.Learnt,
+  store-whole-reads.Asked,
+  store-whole-reads.Learnt,
   save-below-below t,
   save-below.Post,
-  sink-route-reads.Asked,
-  sink-route-reads.Learnt,
+  place-route-reads.Asked,
+  place-route-reads.Learnt,
 ) (save-at-at t) save-at.Post
-save-at-same-length t c = c .before .before .store-route .kept .0
+save-at-same-length t c = c .before .before .store-whole .kept .0
 
 save-at-returns : (t : ℕ) → save-at-lts.Need-returns (
-  row-at-reads.Asked,
-  row-at-reads.Learnt,
+  whole-row-reads.Asked,
+  whole-row-reads.Learnt,
   route-of-reads.Asked,
   route-of-reads.Learnt,
-  store-route-reads.Asked,
-  store-route-reads.Learnt,
+  store-whole-reads.Asked,
+  store-whole-reads.Learnt,
   save-below-below t,
   save-below.Post,
-  sink-route-reads.Asked,
-  sink-route-reads.Learnt,
+  place-route-reads.Asked,
+  place-route-reads.Learnt,
 ) (save-at-at t) save-at.Post
 save-at-returns t c =
     let p = c .before .before in
@@ -132,35 +136,35 @@ save-at-returns t c =
     let a = i .before .before .before .before in
     let last = size-last (rowAt (a .args .rows .now)) (a .args .left) (a .args .row) (i .if1 .taken) in
     let room : a .args .at * 3 + 3 ≤ length (a .args .list .now) = omega (arith, last, a .pre .1 .1) in
-    wrote-last (rowAt (a .args .rows .now)) (a .args .left) (a .args .row) (a .args .at) _ _ _ _ (i .if1 .taken) (i .before .row-at .ensures) (p .before .route-of .ensures) room (p .store-route .ensures)
+    wrote-last (rowAt (a .args .rows .now)) (a .args .left) (a .args .row) (a .args .at) _ _ _ _ (i .if1 .taken) (i .before .whole-row .ensures) (p .before .route-of .ensures) room (p .store-whole .ensures)
 
 save-at-sub-save-below : (t : ℕ) → save-at-lts.Need-sub-save-below (
-  row-at-reads.Asked,
-  row-at-reads.Learnt,
+  whole-row-reads.Asked,
+  whole-row-reads.Learnt,
   route-of-reads.Asked,
   route-of-reads.Learnt,
-  store-route-reads.Asked,
-  store-route-reads.Learnt,
+  store-whole-reads.Asked,
+  store-whole-reads.Learnt,
   save-below-below t,
   save-below.Post,
-  sink-route-reads.Asked,
-  sink-route-reads.Learnt,
+  place-route-reads.Asked,
+  place-route-reads.Learnt,
 ) (save-at-at t) save-at.Post
 save-at-sub-save-below t c =
     let ne = c .if1 .left in
     omega arith
 
 save-at-save-below-requires : (t : ℕ) → save-at-lts.Need-save-below-requires (
-  row-at-reads.Asked,
-  row-at-reads.Learnt,
+  whole-row-reads.Asked,
+  whole-row-reads.Learnt,
   route-of-reads.Asked,
   route-of-reads.Learnt,
-  store-route-reads.Asked,
-  store-route-reads.Learnt,
+  store-whole-reads.Asked,
+  store-whole-reads.Learnt,
   save-below-below t,
   save-below.Post,
-  sink-route-reads.Asked,
-  sink-route-reads.Learnt,
+  place-route-reads.Asked,
+  place-route-reads.Learnt,
 ) (save-at-at t) save-at.Post
 save-at-save-below-requires t c κs =
     let ne = c .before .if1 .left in
@@ -169,38 +173,61 @@ save-at-save-below-requires t c κs =
     let M = rowAt (a .args .rows .now) in (
       omega arith,
       (
-        savable-child M (rowCount (a .args .rows .now)) (a .args .left) (a .args .row) _ ne (r .row-at .ensures) (a .pre .1 .0) false,
-        omega (arith, size-more M (a .args .left) (a .args .row) _ ne (r .row-at .ensures), a .pre .1 .1),
+        savable-child M (rowCount (a .args .rows .now)) (a .args .left) (a .args .row) _ ne (r .whole-row .ensures) (a .pre .1 .0) false,
+        omega (arith, size-more M (a .args .left) (a .args .row) _ ne (r .whole-row .ensures), a .pre .1 .1),
       ),
     )
 
 save-at-sub-save-below-2 : (t : ℕ) → save-at-lts.Need-sub-save-below-2 (
-  row-at-reads.Asked,
-  row-at-reads.Learnt,
+  whole-row-reads.Asked,
+  whole-row-reads.Learnt,
   route-of-reads.Asked,
   route-of-reads.Learnt,
-  store-route-reads.Asked,
-  store-route-reads.Learnt,
+  store-whole-reads.Asked,
+  store-whole-reads.Learnt,
   save-below-below t,
   save-below.Post,
-  sink-route-reads.Asked,
-  sink-route-reads.Learnt,
+  place-route-reads.Asked,
+  place-route-reads.Learnt,
 ) (save-at-at t) save-at.Post
 save-at-sub-save-below-2 t c =
     let ne = c .before .before .before .before .if1 .left in
     omega arith
 
-save-at-save-below-requires-2 : (t : ℕ) → save-at-lts.Need-save-below-requires-2 (
-  row-at-reads.Asked,
-  row-at-reads.Learnt,
+save-at-add-save-below : (t : ℕ) → save-at-lts.Need-add-save-below (
+  whole-row-reads.Asked,
+  whole-row-reads.Learnt,
   route-of-reads.Asked,
   route-of-reads.Learnt,
-  store-route-reads.Asked,
-  store-route-reads.Learnt,
+  store-whole-reads.Asked,
+  store-whole-reads.Learnt,
   save-below-below t,
   save-below.Post,
-  sink-route-reads.Asked,
-  sink-route-reads.Learnt,
+  place-route-reads.Asked,
+  place-route-reads.Learnt,
+) (save-at-at t) save-at.Post
+save-at-add-save-below t c =
+    let s = c .before .before .before in
+    let r = s .before .before .before in
+    let a = r .before .before .before in
+    omega (
+      arith,
+      size-more (rowAt (a .args .rows .now)) (a .args .left) (a .args .row) _ (s .before .before .if1 .left) (r .whole-row .ensures),
+      a .pre .1 .1,
+      s .save-below .ensures .end,
+    )
+
+save-at-save-below-requires-2 : (t : ℕ) → save-at-lts.Need-save-below-requires-2 (
+  whole-row-reads.Asked,
+  whole-row-reads.Learnt,
+  route-of-reads.Asked,
+  route-of-reads.Learnt,
+  store-whole-reads.Asked,
+  store-whole-reads.Learnt,
+  save-below-below t,
+  save-below.Post,
+  place-route-reads.Asked,
+  place-route-reads.Learnt,
 ) (save-at-at t) save-at.Post
 save-at-save-below-requires-2 t c κs =
     let s = c .before .before .before in
@@ -210,10 +237,10 @@ save-at-save-below-requires-2 t c κs =
     let M = rowAt (a .args .rows .now) in (
       omega arith,
       (
-        savable-child M (rowCount (a .args .rows .now)) (a .args .left) (a .args .row) _ ne (r .row-at .ensures) (a .pre .1 .0) true,
+        savable-child M (rowCount (a .args .rows .now)) (a .args .left) (a .args .row) _ ne (r .whole-row .ensures) (a .pre .1 .0) true,
         omega (
           arith,
-          size-more M (a .args .left) (a .args .row) _ ne (r .row-at .ensures),
+          size-more M (a .args .left) (a .args .row) _ ne (r .whole-row .ensures),
           a .pre .1 .1,
           s .save-below .ensures .end,
           s .save-below .kept .1 .1 .1 .0,
@@ -222,42 +249,43 @@ save-at-save-below-requires-2 t c κs =
     )
 
 save-at-route-of-requires-2 : (t : ℕ) → save-at-lts.Need-route-of-requires-2 (
-  row-at-reads.Asked,
-  row-at-reads.Learnt,
+  whole-row-reads.Asked,
+  whole-row-reads.Learnt,
   route-of-reads.Asked,
   route-of-reads.Learnt,
-  store-route-reads.Asked,
-  store-route-reads.Learnt,
+  store-whole-reads.Asked,
+  store-whole-reads.Learnt,
   save-below-below t,
   save-below.Post,
-  sink-route-reads.Asked,
-  sink-route-reads.Learnt,
+  place-route-reads.Asked,
+  place-route-reads.Learnt,
 ) (save-at-at t) save-at.Post
 save-at-route-of-requires-2 t c κs = search needs
 
-save-at-sink-route-requires : (t : ℕ) → save-at-lts.Need-sink-route-requires (
-  row-at-reads.Asked,
-  row-at-reads.Learnt,
+save-at-place-route-requires : (t : ℕ) → save-at-lts.Need-place-route-requires (
+  whole-row-reads.Asked,
+  whole-row-reads.Learnt,
   route-of-reads.Asked,
   route-of-reads.Learnt,
-  store-route-reads.Asked,
-  store-route-reads.Learnt,
+  store-whole-reads.Asked,
+  store-whole-reads.Learnt,
   save-below-below t,
   save-below.Post,
-  sink-route-reads.Asked,
-  sink-route-reads.Learnt,
+  place-route-reads.Asked,
+  place-route-reads.Learnt,
 ) (save-at-at t) save-at.Post
-save-at-sink-route-requires t c κs =
+save-at-place-route-requires t c κs =
     let u = c .before .before .before .before in
     let s = u .before .before .before .before in
     let ne = s .before .before .if1 .left in
     let r = s .before .before .before in
     let a = r .before .before .before in
     let M = rowAt (a .args .rows .now) in (
-      omega (arith, u .save-below2 .ensures .end, s .save-below .ensures .end),
+      omega (arith, s .save-below .ensures .end),
+      omega (arith, u .save-below2 .ensures .end),
       omega (
         arith,
-        size-more M (a .args .left) (a .args .row) _ ne (r .row-at .ensures),
+        size-more M (a .args .left) (a .args .row) _ ne (r .whole-row .ensures),
         a .pre .1 .1,
         u .save-below2 .ensures .end,
         s .save-below .ensures .end,
@@ -266,62 +294,35 @@ save-at-sink-route-requires t c κs =
       ),
     )
 
-save-at-add-result-2 : (t : ℕ) → save-at-lts.Need-add-result-2 (
-  row-at-reads.Asked,
-  row-at-reads.Learnt,
-  route-of-reads.Asked,
-  route-of-reads.Learnt,
-  store-route-reads.Asked,
-  store-route-reads.Learnt,
-  save-below-below t,
-  save-below.Post,
-  sink-route-reads.Asked,
-  sink-route-reads.Learnt,
-) (save-at-at t) save-at.Post
-save-at-add-result-2 t c =
-    let u = c .before .before .before .before .before .before .before in
-    let s = u .before .before .before .before in
-    let ne = s .before .before .if1 .left in
-    let r = s .before .before .before in
-    let a = r .before .before .before in
-    let M = rowAt (a .args .rows .now) in
-    omega (
-      arith,
-      size-more M (a .args .left) (a .args .row) _ ne (r .row-at .ensures),
-      a .pre .1 .1,
-      u .save-below2 .ensures .end,
-      s .save-below .ensures .end,
-    )
-
 save-at-same-length-2 : (t : ℕ) → save-at-lts.Need-same-length-2 (
-  row-at-reads.Asked,
-  row-at-reads.Learnt,
+  whole-row-reads.Asked,
+  whole-row-reads.Learnt,
   route-of-reads.Asked,
   route-of-reads.Learnt,
-  store-route-reads.Asked,
-  store-route-reads.Learnt,
+  store-whole-reads.Asked,
+  store-whole-reads.Learnt,
   save-below-below t,
   save-below.Post,
-  sink-route-reads.Asked,
-  sink-route-reads.Learnt,
+  place-route-reads.Asked,
+  place-route-reads.Learnt,
 ) (save-at-at t) save-at.Post
 save-at-same-length-2 t c =
     let p = c .before .before in
     let u = p .before .before .before .before .before in
     let s = u .before .before .before .before in
-    p .sink-route .kept .0 ∙ u .save-below2 .kept .1 .1 .1 .0 ∙ s .save-below .kept .1 .1 .1 .0
+    p .place-route .kept .0 ∙ u .save-below2 .kept .1 .1 .1 .0 ∙ s .save-below .kept .1 .1 .1 .0
 
 save-at-returns-2 : (t : ℕ) → save-at-lts.Need-returns-2 (
-  row-at-reads.Asked,
-  row-at-reads.Learnt,
+  whole-row-reads.Asked,
+  whole-row-reads.Learnt,
   route-of-reads.Asked,
   route-of-reads.Learnt,
-  store-route-reads.Asked,
-  store-route-reads.Learnt,
+  store-whole-reads.Asked,
+  store-whole-reads.Learnt,
   save-below-below t,
   save-below.Post,
-  sink-route-reads.Asked,
-  sink-route-reads.Learnt,
+  place-route-reads.Asked,
+  place-route-reads.Learnt,
 ) (save-at-at t) save-at.Post
 save-at-returns-2 t c =
     let p = c .before .before in
@@ -331,7 +332,7 @@ save-at-returns-2 t c =
     let r = s .before .before .before in
     let a = r .before .before .before in
     let M = rowAt (a .args .rows .now) in
-    wrote-more M (rowCount (a .args .rows .now)) (a .args .left) (a .args .row) (a .args .at) _ _ _ _ _ _ _ _ ne (r .row-at .ensures) (a .pre .1 .0) (a .pre .1 .1) (s .save-below .ensures) (u .save-below2 .ensures) (p .before .route-of2 .ensures) (p .sink-route .ensures)
+    wrote-more M (rowCount (a .args .rows .now)) (a .args .left) (a .args .row) (a .args .at) _ _ _ _ _ _ _ _ ne (r .whole-row .ensures) (a .pre .1 .0) (a .pre .1 .1) (s .save-below .ensures) (u .save-below2 .ensures) (p .before .route-of2 .ensures) (p .place-route .ensures)
 
 save-below-returns :
     (t : ℕ) →
@@ -376,32 +377,32 @@ save-below-returns-2 t c =
 
 pub +save-at+save-below-spec : {M : Type 1} → statement M
 +save-at+save-below-spec = close μ-save-at μ-save-below (λ t. save-at-lts.spec (
-  row-at-reads.Asked,
-  row-at-reads.Learnt,
+  whole-row-reads.Asked,
+  whole-row-reads.Learnt,
   route-of-reads.Asked,
   route-of-reads.Learnt,
-  store-route-reads.Asked,
-  store-route-reads.Learnt,
+  store-whole-reads.Asked,
+  store-whole-reads.Learnt,
   save-below-below t,
   save-below.Post,
-  sink-route-reads.Asked,
-  sink-route-reads.Learnt,
+  place-route-reads.Asked,
+  place-route-reads.Learnt,
 )
     (save-at-at t)
     save-at.Post
-    (save-at-row-at-requires t)
+    (save-at-whole-row-requires t)
     (save-at-route-of-requires t)
-    (save-at-store-route-requires t)
+    (save-at-store-whole-requires t)
     (save-at-add-result t)
     (save-at-same-length t)
     (save-at-returns t)
     (save-at-sub-save-below t)
     (save-at-save-below-requires t)
     (save-at-sub-save-below-2 t)
+    (save-at-add-save-below t)
     (save-at-save-below-requires-2 t)
     (save-at-route-of-requires-2 t)
-    (save-at-sink-route-requires t)
-    (save-at-add-result-2 t)
+    (save-at-place-route-requires t)
     (save-at-same-length-2 t)
     (save-at-returns-2 t))
     λ t. save-below-lts.spec

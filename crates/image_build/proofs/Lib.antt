@@ -1,6 +1,7 @@
 -- Laws of this layer that belong to no one function.
 pub mod CountLoop
 pub mod SlotReturns
+pub mod LeafSlots
 pub mod NodeStep
 pub mod WholeImage
 pub mod Answers

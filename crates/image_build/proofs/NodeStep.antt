@@ -6,6 +6,7 @@ use native.Mathlib.Omega.{arith}
 use lib.ListN.{length}
 use lib.Seq.{sets}
 use Rattle.lists.specs.Flat.{flat}
+use Rattle.routes.specs.declared.Route.{Route}
 use Rattle.image_rules.specs.Node.{nodeWords, offset, nodeStart, storeNodes}
 use Rattle.image_rules.specs.Breadth.{Slot, bitmap, children, leafPorts}
 use Rattle.image_stretch.specs.declared.Stretch.{Stretch}
@@ -15,11 +16,11 @@ use Rattle.image_stretch.specs.Needs.{Buildable}
 
 module _ (S : Stretch → List (Slot Stretch)) where
   -- what a node's slots rely on, for the node as it was read
-  pub fill-needs : (w s : ℕ) (nodes ports : List ℕ) (next base : ℕ) (x y : Stretch) → x ≡ y → Buildable w s y
+  pub fill-needs : (w : ℕ) (R : ℕ → Route) (s m : ℕ) (nodes ports : List ℕ) (next base : ℕ) (x y : Stretch) → x ≡ y → Buildable w R s m y
       → nodeStart (next + length (children S y)) ≤ length nodes → base + length (leafPorts S y) ≤ length ports
-      → Buildable w s x × (nodeStart (next + length (children S x)) ≤ length nodes) × (base + length (leafPorts S x) ≤ length ports)
-  fill-needs w s nodes ports next base x y e o p q =
-      subst (λ (z : Stretch). Buildable w s z × (nodeStart (next + length (children S z)) ≤ length nodes) × (base + length (leafPorts S z) ≤ length ports))
+      → Buildable w R s m x × (nodeStart (next + length (children S x)) ≤ length nodes) × (base + length (leafPorts S x) ≤ length ports)
+  fill-needs w R s m nodes ports next base x y e o p q =
+      subst (λ (z : Stretch). Buildable w R s m z × (nodeStart (next + length (children S z)) ≤ length nodes) × (base + length (leafPorts S z) ≤ length ports))
       (sym e) (o, p, q)
 
   -- what building a node leaves

@@ -1,7 +1,7 @@
 -- A slot of a node, from what the code finds. Assumes nothing.
 use mathlib.Core.Path.{_≡_, sym, ap, _∙_, subst}
 use mathlib.Core.Bool.{Bool, true, false, cond}
-use Prim.Native.Nat.{ℕ, _+_, _*_}
+use Prim.Native.Nat.{ℕ, _+_, _*_, _<_}
 use native.Mathlib.Nat.{add-zero}
 use Rattle.prefix.specs.Prefixes.{prefix}
 use Rattle.prefix.specs.declared.Prefix.{Prefix}
@@ -11,10 +11,11 @@ use Rattle.image_nodes.specs.declared.Node.{Node}
 use Rattle.image_nodes.specs.declared.Leaf.{Leaf}
 use Rattle.image_stretch.specs.declared.Stretch.{Stretch}
 use Rattle.image_stretch.specs.declared.Filled.{Filled}
-use Rattle.image_stretch.specs.Stretches.{slotStretch, goesOn, leafPort, slotIn, addressOf, slotAddress, stretchSlot}
+use Rattle.image_stretch.specs.Stretches.{slotStretchAt, goesOn, leafPort, slotIn, addressOf, slotAddress, slotFirst, stretchAt}
 use Rattle.image_stretch.specs.Memory.{filledBy}
 use Rattle.image_stretch.specs.Needs.{Fits}
 use Rattle.image_stretch.proofs.Bounds.{slot-fits, slot-depth}
+use Rattle.image_stretch.proofs.Resuming.{Resumed, resumed-is}
 
 -- by the test of the last route
 pub slot-goes : (R : ℕ → Route) (y : Stretch) (t : Bool) → t ≡ goesOn R y → t ≡ true → slotIn R y ≡ nonLeaf y
@@ -35,15 +36,17 @@ filled-ends o p st next e n =
     (λ j. record { bitmap = st .bitmap * 2 + 1; node = record { 0 = sym (add-zero (st .node .0)) j }; leaf = record { 0 = n j } })
     ∙ ap (λ (u : Slot Stretch). filledBy u st) (sym e)
 
--- slot j by its prefix
-pub slot-found : (w : ℕ) (R : ℕ → Route) (s : ℕ) (x y : Stretch) (address j : ℕ) (p : Prefix) → address ≡ addressOf w R x
-    → p ≡ prefix (slotAddress w address (x .depth + s) j) (x .depth + s) → y ≡ slotStretch w R x (p .value) (p .len)
-    → slotIn R y ≡ stretchSlot w R s x j
-slot-found w R s x y address j p a b c =
-    ap (slotIn R) (c ∙ ap (λ (q : Prefix). slotStretch w R x (q .value) (q .len)) b)
-    ∙ ap (λ (m : ℕ). slotIn R (slotStretch w R x (slotAddress w m (x .depth + s) j) (x .depth + s))) a
+-- slot j by its prefix, where the search resumed
+pub slot-found : (w : ℕ) (R : ℕ → Route) (s m : ℕ) (x y : Stretch) (address j short at : ℕ) (p : Prefix) → Fits x → Resumed w R s m x j short at → j < m
+    → address ≡ addressOf w R x → p ≡ prefix (slotAddress w address (x .depth + s) j) (x .depth + s)
+    → y ≡ slotStretchAt w R x short at (p .value) (p .len) → y ≡ stretchAt w R s x j
+slot-found w R s m x y address j short at p f r h a b c =
+    c ∙ ap (λ (q : Prefix). slotStretchAt w R x short at (q .value) (q .len)) b
+    ∙ ap (λ (k : ℕ). slotStretchAt w R x short at (slotAddress w k (x .depth + s) j) (x .depth + s)) a
+    ∙ resumed-is w R s m x f j short at r h
 
 -- the slot's stretch fits a node's words, as its node's does
-pub slot-needs : (w : ℕ) (R : ℕ → Route) (x y : Stretch) (v l : ℕ) → y ≡ slotStretch w R x v l → Fits x → Fits y × (y .depth ≡ l)
-slot-needs w R x y v l e f =
-    subst (λ (z : Stretch). Fits z × (z .depth ≡ l)) (sym e) (slot-fits w R x v l f, slot-depth w R x v l f)
+pub slot-needs : (w : ℕ) (R : ℕ → Route) (s : ℕ) (x y : Stretch) (j : ℕ) → y ≡ stretchAt w R s x j → Fits x → Fits y × (y .depth ≡ x .depth + s)
+slot-needs w R s x y j e f =
+    subst (λ (z : Stretch). Fits z × (z .depth ≡ x .depth + s)) (sym e)
+    (slot-fits w R x (slotFirst w R s x j) (x .depth + s) f, slot-depth w R x (slotFirst w R s x j) (x .depth + s) f)

@@ -50,9 +50,9 @@ module _ (w : ℕ) (list : List ℕ) (n s slots : ℕ) (nodes ports : List ℕ) 
     length-rooted : length rooted ≡ length nodes
     length-rooted = ap length e ∙ length-sets nodes (nodeStart 1) (pending (rootOf n))
 
-    pub rooted-queue : Queue w s n (stretchSlots w R s slots) allIn rooted ports
+    pub rooted-queue : Queue w R s slots n (stretchSlots w R s slots) allIn rooted ports
     rooted-queue =
-        subst (λ (k : ℕ). Queue w s n (stretchSlots w R s k) (levels (stretchSlots w R s k) (w / s) (rootOf n ∷ [])) rooted ports) (sym (r .slotsAre))
+        subst (λ (k : ℕ). Queue w R s k n (stretchSlots w R s k) (levels (stretchSlots w R s k) (w / s) (rootOf n ∷ [])) rooted ports) (sym (r .slotsAre))
         (queue-of w s list n st (r .valid) rooted ports (omega (arith, length-rooted, r .nodesFit)) (omega (arith, ports-are, r .portsFit))
         (omega (arith, r .nodesFew, r .wordsHold)) (omega (arith, ports-are, leaves-few w count slots (r .nodesFew) (r .slotsFew), r .wordsHold)))
 

@@ -1,8 +1,8 @@
 // The builder's loop: the nodes lent are the queue of the nodes still to do.
 ghost use mathlib.Core.Path.{_≡_};
 ghost use mathlib.Core.List.{[], _∷_};
-ghost use Prim.Native.Nat.{_+_, _-_, _/_, _^_, _<_, _≤_};
-ghost use lib.ListN.{length};
+ghost use Prim.Native.Nat.{ℕ, _+_, _-_, _*_, _/_, _^_, _<_, _≤_};
+ghost use lib.ListN.{length, replicate};
 ghost use lib.Seq.{sets};
 ghost use Rattle.promise.specs.Over.{over};
 ghost use Rattle.bits.specs.Prefix.{span};
@@ -13,9 +13,9 @@ ghost use Rattle.image_rules.specs.Node.{nodeWords, offset, nodeStart, storeNod
 ghost use Rattle.image_rules.specs.Breadth.{slotChildren, slotPorts, bitmap, children, leafPorts, levels, treeWords, treePorts};
 ghost use Rattle.image_rules.specs.Image.{imageNodes, imagePorts, routesOf};
 ghost use Rattle.image_nodes.specs.Needs.{Lent};
-ghost use Rattle.image_stretch.specs.Stretches.{slotIn, addressOf, slotAddress, stretchSlots, rootOf};
-ghost use Rattle.image_stretch.specs.Memory.{pending, pendingAt, free, filled, filledBy, buildNode};
-ghost use Rattle.image_stretch.specs.Needs.{Fits, Buildable, Queue};
+ghost use Rattle.image_stretch.specs.Stretches.{halfWord, shortAfter, slotIn, addressOf, slotAddress, stretchSlots, rootOf};
+ghost use Rattle.image_stretch.specs.Memory.{pending, pendingAt, free, filled, filledBy, filledLeaves, owed, keptAfter, buildNode};
+ghost use Rattle.image_stretch.specs.Needs.{Fits, Clear, Buildable, Queue};
 ghost use Rattle.image_build.specs.Needs.{mostSlots, ImageRoom};
 use image_nodes::Distance;
 use image_nodes::Leaf;
@@ -110,14 +110,34 @@ fn slot_place(address: u32, depth: u32, j: u32) -> Prefix
     Prefix::new(value as u32, depth)
 }
 
-// One slot: a leaf's port, or a node still to do.
-fn fill_slot(list: &[u32], y: Stretch, nodes: &mut [u32], ports: &mut [u16], st: Filled) -> Filled
-    requires { ⌜ Fits y × (y .depth ≤ 32) × (st .bitmap < 2 ^ 31) × (0 < st .node .0)
+// One port for the leaves from a place on, up to another.
+fn store_ports(ports: &mut [u16], place: usize, past: usize, port: u16)
+    requires { ⌜ (place ≤ past) × (past ≤ length (now ports)) ⌝ }
+    ensures { λ _. ⌜ now (ports .exit) ≡ sets (now (ports .entry)) place (replicate (past - place) port) ⌝ }
+{
+    let mut i = place;
+    while i < past {
+        ports[i] = port;
+        i += 1;
+    }
+}
+
+// One slot: a leaf's port, after those that are still owed; or a node still to do.
+fn fill_slot(
+    list: &[u32],
+    y: Stretch,
+    nodes: &mut [u32],
+    ports: &mut [u16],
+    kept: usize,
+    best: u32,
+    st: Filled,
+) -> Filled
+    requires { ⌜ (kept ≤ st .leaf .0) × (best < halfWord) × Fits y × (y .depth ≤ 32) × (st .bitmap < 2 ^ 31) × (0 < st .node .0)
         × (nodeStart (st .node .0 + length (slotChildren (slotIn (routeAt (now list)) y))) ≤ length (now nodes))
         × (st .leaf .0 + length (slotPorts (slotIn (routeAt (now list)) y)) ≤ length (now ports)) ⌝ }
     ensures { λ r. ⌜ (r ≡ filledBy (slotIn (routeAt (now (list .entry))) y) st)
         × (now (nodes .exit) ≡ storeNodes (now (nodes .entry)) (st .node .0) (flat pending (slotChildren (slotIn (routeAt (now (list .entry))) y))))
-        × (now (ports .exit) ≡ sets (now (ports .entry)) (st .leaf .0) (slotPorts (slotIn (routeAt (now (list .entry))) y))) ⌝ }
+        × ((k : ℕ) → k ≡ keptAfter kept (st .leaf .0) (r .leaf .0) → owed (now (ports .exit)) k (r .leaf .0) best ≡ sets (owed (now (ports .entry)) kept (st .leaf .0) best) (st .leaf .0) (slotPorts (slotIn (routeAt (now (list .entry))) y))) ⌝ }
 {
     let node = st.node;
     let leaf = st.leaf;
@@ -130,6 +150,7 @@ fn fill_slot(list: &[u32], y: Stretch, nodes: &mut [u32], ports: &mut [u16], st:
         };
     }
     let place = leaf.0;
+    store_ports(ports, kept, place, best as u16);
     ports[place] = leaf_port(list, y) as u16;
     Filled {
         bitmap: st.bitmap * 2 + 1,
@@ -138,7 +159,88 @@ fn fill_slot(list: &[u32], y: Stretch, nodes: &mut [u32], ports: &mut [u16], st:
     }
 }
 
-// All slots of a node.
+// From where on a route of the node may match a later slot, after the slot with the stretch y. The routes in a slot match no later one,
+// and what the search passes on the way to a slot is shorter than the slots, and may match all that follow.
+fn short_after(short: usize, y: Stretch) -> usize
+    ensures { λ r. ⌜ r ≡ shortAfter short y ⌝ }
+{
+    if y.lo == short {
+        return y.hi;
+    }
+    short
+}
+
+// The slot in which a value lies, of a node that begins at an address; the number of slots if it lies past them.
+fn slot_of(value: u32, address: u32, depth: u32, slots: u32) -> u32
+    requires { ⌜ depth ≤ 32 ⌝ }
+    ensures { λ r. ⌜ (r ≤ slots) × (r * span 32 depth ≤ value - address) ⌝ }
+{
+    if value < address {
+        return 0;
+    }
+    let slot = ((value - address) as u64) >> (32 - depth);
+    if slots as u64 <= slot {
+        return slots;
+    }
+    slot as u32
+}
+
+// The slots before this one are leaves with the node's port: the next route lies no earlier, and none before it was shorter than the slots.
+fn clear_to(
+    list: &[u32],
+    x: Stretch,
+    short: usize,
+    route: usize,
+    address: u32,
+    depth: u32,
+    slots: u32,
+) -> u32
+    requires { ⌜ depth ≤ 32 ⌝ }
+    ensures { λ r. ⌜ Clear 32 (routeAt (now (list .entry))) slots x short route address depth r ⌝ }
+{
+    if short != route {
+        return 0;
+    }
+    if x.hi <= route {
+        return slots;
+    }
+    slot_of(route_at(list, route).value, address, depth, slots)
+}
+
+// A bitmap, and so many ones after it.
+fn with_leaves(bits: u32, count: u32) -> u32
+    requires { ⌜ (bits < 2 ^ mostSlots) × (count ≤ mostSlots) ⌝ }
+    ensures { λ r. ⌜ r ≡ (bits + 1) * 2 ^ count - 1 ⌝ }
+{
+    (((bits as u64 + 1) << count) - 1) as u32
+}
+
+// Some slots at once that are leaves; their ports are stored later.
+fn skip_leaves(count: u32, st: Filled) -> Filled
+    requires { ⌜ (count ≤ mostSlots) × (st .bitmap < 2 ^ mostSlots) × (st .leaf .0 + count < 2 ^ 64) ⌝ }
+    ensures { λ r. ⌜ r ≡ filledLeaves count st ⌝ }
+{
+    let node = st.node;
+    let leaf = st.leaf;
+    Filled {
+        bitmap: with_leaves(st.bitmap, count),
+        node,
+        leaf: leaf.after(count as usize),
+    }
+}
+
+// Up to where the ports are stored after a slot: past its own, if it has one.
+fn kept_after(kept: usize, before: Leaf, after: Leaf) -> usize
+    ensures { λ r. ⌜ r ≡ keptAfter kept (before .0) (after .0) ⌝ }
+{
+    if before.0 == after.0 {
+        return kept;
+    }
+    after.0
+}
+
+// All slots of a node. The search for a slot's stretch resumes where that of the slot before ended. Leaves with the node's port are
+// only counted, and their ports stored together: the ports of a node's leaves stand side by side.
 fn fill_node(
     list: &[u32],
     x: Stretch,
@@ -148,7 +250,7 @@ fn fill_node(
     ports: &mut [u16],
     at: Free,
 ) -> Filled
-    requires { ⌜ (slots ≤ mostSlots) × Buildable 32 stride x × (0 < at .node .0)
+    requires { ⌜ (slots ≤ mostSlots) × Buildable 32 (routeAt (now list)) stride slots x × (0 < at .node .0)
         × (nodeStart (at .node .0 + length (flat slotChildren (stretchSlots 32 (routeAt (now list)) stride slots x))) ≤ length (now nodes))
         × (at .leaf .0 + length (flat slotPorts (stretchSlots 32 (routeAt (now list)) stride slots x)) ≤ length (now ports)) ⌝ }
     ensures { λ r. ⌜ (r ≡ filled (bitmap (stretchSlots 32 (routeAt (now (list .entry))) stride slots x))
@@ -162,16 +264,33 @@ fn fill_node(
     let node = at.node;
     let leaf = at.leaf;
     let mut j = 0;
+    let mut short = x.lo;
+    let mut route = x.lo;
+    let mut clear = clear_to(list, x, x.lo, x.lo, address, depth, slots);
+    let mut kept = leaf.0;
     let mut st = Filled {
         bitmap: 0,
         node,
         leaf,
     };
     while j < slots {
-        let y = slot_stretch(list, x, x.lo, slot_place(address, depth, j));
-        st = fill_slot(list, y, nodes, ports, st);
+        if j < clear {
+            st = skip_leaves(clear - j, st);
+            j = clear;
+            continue;
+        }
+        let y = slot_stretch(list, x, short, route, slot_place(address, depth, j));
+        let before = st.leaf;
+        st = fill_slot(list, y, nodes, ports, kept, x.best, st);
+        let after = st.leaf;
+        kept = kept_after(kept, before, after);
+        short = short_after(short, y);
+        route = y.hi;
+        clear = clear_to(list, x, short, route, address, depth, slots);
         j += 1;
     }
+    let past = st.leaf;
+    store_ports(ports, kept, past.0, x.best as u16);
     st
 }
 
@@ -186,7 +305,7 @@ fn build_node(
     st: Free,
 ) -> Free
     requires { ⌜ (slots ≤ mostSlots) × (0 < at .0) × (at .0 < st .node .0) × (st .node .0 ≤ 2 ^ 32) × (st .leaf .0 < 2 ^ 32)
-        × Buildable 32 stride (pendingAt (now nodes) (at .0))
+        × Buildable 32 (routeAt (now list)) stride slots (pendingAt (now nodes) (at .0))
         × (nodeStart (st .node .0 + length (children (stretchSlots 32 (routeAt (now list)) stride slots) (pendingAt (now nodes) (at .0)))) ≤ length (now nodes))
         × (st .leaf .0 + length (leafPorts (stretchSlots 32 (routeAt (now list)) stride slots) (pendingAt (now nodes) (at .0))) ≤ length (now ports)) ⌝ }
     ensures { λ r. ⌜ (r ≡ free (st .node .0 + length (children (stretchSlots 32 (routeAt (now (list .entry))) stride slots) (pendingAt (now (nodes .entry)) (at .0))))
@@ -214,7 +333,7 @@ fn build_nodes(
     ports: &mut [u16],
 )
     requires { ⌜ (slots ≤ mostSlots) × (now nodes ≡ storeNodes (now nodes) 1 (pending (rootOf n)))
-        × Queue 32 stride n (stretchSlots 32 (routeAt (now list)) stride slots) (levels (stretchSlots 32 (routeAt (now list)) stride slots) (32 / stride) (rootOf n ∷ [])) (now nodes) (now ports) ⌝ }
+        × Queue 32 (routeAt (now list)) stride slots n (stretchSlots 32 (routeAt (now list)) stride slots) (levels (stretchSlots 32 (routeAt (now list)) stride slots) (32 / stride) (rootOf n ∷ [])) (now nodes) (now ports) ⌝ }
     ensures { λ _. ⌜ (now (nodes .exit) ≡ over (treeWords (stretchSlots 32 (routeAt (now (list .entry))) stride slots) (levels (stretchSlots 32 (routeAt (now (list .entry))) stride slots) (32 / stride) (rootOf n ∷ []))) (now (nodes .entry)))
         × (now (ports .exit) ≡ over (treePorts (stretchSlots 32 (routeAt (now (list .entry))) stride slots) (levels (stretchSlots 32 (routeAt (now (list .entry))) stride slots) (32 / stride) (rootOf n ∷ []))) (now (ports .entry))) ⌝ }
 {

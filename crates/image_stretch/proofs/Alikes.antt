@@ -91,7 +91,7 @@ module _ (w : ℕ) (R : ℕ → Route) (n : ℕ) (ok : ValidList w R n) (y : Str
   at-lt = omega (arith, start-lt w (y .depth) h (p .deep) (p .high), span-pos w (y .depth))
 
   -- a route in the place that is not longer than the place's bits is the place's own prefix
-  own-value : (m : ℕ) → y .lo ≤ m → m < y .hi → R m .len ≤ y .depth → R m .value ≡ at
+  pub own-value : (m : ℕ) → y .lo ≤ m → m < y .hi → R m .len ≤ y .depth → R m .value ≡ at
   own-value m a b k =
       let v = ok .each m (omega (arith, p .most)) .prefix in
       let z = zeros-longer w (R m .value) (R m .len) (y .depth) k (p .deep) (v .zeros) in

@@ -105,11 +105,11 @@ module _ (w : ℕ) (R : ℕ → Route) where
         ∙ ap (λ (j : ℕ). lastMatch w R j a) (sym z)
 
 -- the slot's stretch, from what the three searches found
-pub slot-stretch-is : (w : ℕ) (R : ℕ → Route) (x : Stretch) (at v l port hi : ℕ) (s : Sought)
-    → port ≡ lastFrom w R v (x .best) (x .lo) (at - x .lo) → s ≡ seekFrom w R v l port at (x .hi)
-    → hi ≡ past (under w R v l) (x .hi - s .route) (s .route) → stretch (s .route) hi l (s .port) ≡ slotStretchAt w R x at v l
+pub slot-stretch-is : (w : ℕ) (R : ℕ → Route) (x : Stretch) (short at v l port hi : ℕ) (s : Sought)
+    → port ≡ lastFrom w R v (x .best) short (at - short) → s ≡ seekFrom w R v l port at (x .hi)
+    → hi ≡ past (under w R v l) (x .hi - s .route) (s .route) → stretch (s .route) hi l (s .port) ≡ slotStretchAt w R x short at v l
 unfolding slotStretchAt
-slot-stretch-is w R x at v l port hi s a b c =
+slot-stretch-is w R x short at v l port hi s a b c =
     ap (λ (h : ℕ). stretch (s .route) h l (s .port)) c
     ∙ ap (λ (y : Sought). stretch (y .route) (past (under w R v l) (x .hi - y .route) (y .route)) l (y .port)) b
     ∙ ap (λ (p : ℕ). stretch (fromAt R x at v l) (toAt w R x at v l) l (lastFrom w R v p at (fromAt R x at v l - at))) a
@@ -119,10 +119,3 @@ pub seek-is : (w : ℕ) (R : ℕ → Route) (v l best lo hi i port : ℕ) → i 
     → port ≡ lastFrom w R v best lo (i - lo) → sought i port ≡ seekFrom w R v l best lo hi
 seek-is w R v l best lo hi i port e f =
     ap (λ (p : ℕ). sought i p) f ∙ ap (λ (j : ℕ). sought j (lastFrom w R v best lo (j - lo))) e
-
--- started at the first of the node's routes
-pub slot-stretch-first : (w : ℕ) (R : ℕ → Route) (x : Stretch) (v l : ℕ) → slotStretchAt w R x (x .lo) v l ≡ slotStretch w R x v l
-unfolding slotStretchAt slotStretch
-slot-stretch-first w R x v l =
-    ap (λ (p : ℕ). stretch (fromOf R x v l) (toOf w R x v l) l (lastFrom w R v p (x .lo) (fromOf R x v l - x .lo)))
-    (last-from-none w R v (x .best) (x .lo) (x .lo - x .lo) (omega arith))

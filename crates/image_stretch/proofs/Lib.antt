@@ -5,6 +5,8 @@ pub mod Bounds
 pub mod Places
 pub mod Alikes
 pub mod Trees
+pub mod Resuming
+pub mod Parting
 pub mod Counting
 pub mod SlotLoop
 pub mod QueueStep

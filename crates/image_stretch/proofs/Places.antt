@@ -39,7 +39,7 @@ pub record Place (w : ℕ) (R : ℕ → Route) (n h : ℕ) (x : Stretch) : Type 
   pub best : x .best ≡ lastMatch w R (x .lo) (start w (x .depth) h)
 
 -- what stands before a prefix stands before one that begins no earlier and is no shorter
-ahead-later : {v l a d b m : ℕ} → Precedes v l a d → a ≤ b → d ≤ m → Precedes v l b m
+pub ahead-later : {v l a d b m : ℕ} → Precedes v l a d → a ≤ b → d ≤ m → Precedes v l b m
 ahead-later (inl x) h k = inl (omega arith)
 ahead-later {v} {l} {a} {d} {b} {m} (inr x) h k =
     ⊎-elim

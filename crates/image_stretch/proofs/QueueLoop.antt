@@ -10,6 +10,7 @@ use lib.ListN.{length, getD, take, drop, length-drop}
 use lib.Seq.{sets, length-sets, getD-append-add, take-suc, take-all, drop-drop}
 use Rattle.promise.specs.Over.{over}
 use Rattle.lists.specs.Flat.{flat, upto}
+use Rattle.routes.specs.declared.Route.{Route}
 use Rattle.image_rules.specs.Node.{nodeSize, nodeWords, offset, nodeStart, storeNodes}
 use Rattle.image_rules.specs.Breadth.{Slot, bitmap, children, leafPorts, treeWords, treePorts}
 use Rattle.lists.proofs.Flat.{flat-append, upto-suc}
@@ -32,8 +33,8 @@ pub record NodesDone (slots : Stretch → List (Slot Stretch)) (all : List Stret
   pub nodesLent : length nodes ≡ length nodes₀
   pub portsLent : length ports ≡ length ports₀
 
-module _ (w s n : ℕ) (slots : Stretch → List (Slot Stretch)) (all : List Stretch) (nodes₀ ports₀ : List ℕ)
-    (r : Queue w s n slots all nodes₀ ports₀) where
+module _ (w : ℕ) (R : ℕ → Route) (s m n : ℕ) (slots : Stretch → List (Slot Stretch)) (all : List Stretch) (nodes₀ ports₀ : List ℕ)
+    (r : Queue w R s m n slots all nodes₀ ports₀) where
   abbrev x : ℕ → Stretch
   x i = getD all i (rootOf n)
 
@@ -122,7 +123,7 @@ module _ (w s n : ℕ) (slots : Stretch → List (Slot Stretch)) (all : List Str
       is-x = ap₂ (λ (l : List ℕ) (b : ℕ). pendingAt l b) (v .nodesAre) (v .number) ∙ decoded i stored
 
       -- what building the node relies on
-      pub queue-loop-room : (st .node .0 ≤ 2 ^ w) × (st .leaf .0 < 2 ^ w) × Buildable w s (pendingAt nodes a)
+      pub queue-loop-room : (st .node .0 ≤ 2 ^ w) × (st .leaf .0 < 2 ^ w) × Buildable w R s m (pendingAt nodes a)
           × (nodeStart (st .node .0 + length (children slots (pendingAt nodes a))) ≤ length nodes)
           × (st .leaf .0 + length (leafPorts slots (pendingAt nodes a)) ≤ length ports)
       queue-loop-room =
@@ -131,7 +132,7 @@ module _ (w s n : ℕ) (slots : Stretch → List (Slot Stretch)) (all : List Str
           let el : length (leafPorts slots (pendingAt nodes a)) ≡ length (leafPorts slots (x i)) = ap (λ (y : Stretch). length (leafPorts slots y)) is-x in (
             omega (arith, in-use, used-le i, r .nodesFit),
             omega (arith, leaves, upto-le (leafPorts slots) all i, r .portsFit),
-            subst (Buildable w s) (sym is-x) (r .buildable i b),
+            subst (Buildable w R s m) (sym is-x) (r .buildable i b),
             omega (arith, in-use, ek, upto-suc (children slots) all i (rootOf n) b, used-le (suc i), r .nodesRoom, v .nodesLent),
             omega (arith, leaves, el, upto-suc (leafPorts slots) all i (rootOf n) b, upto-le (leafPorts slots) all (suc i), r .portsRoom, v .portsLent),
           )

@@ -24,6 +24,7 @@ use Rattle.image_stretch.specs.Memory.{pending}
 use Rattle.image_stretch.specs.Needs.{Buildable, Queue}
 use Rattle.bits.proofs.Prefix.{start}
 use Rattle.image_stretch.proofs.Trees.{Stands, fits-of, length-stretches, stretches-image, stretches-numbered, stretches-before, stretches-stand}
+use Rattle.image_stretch.proofs.Parting.{stands-parted}
 use Rattle.image_stretch.proofs.Counting.{count-is}
 use Rattle.image_stretch.proofs.QueueStep.{sets-seam}
 
@@ -40,7 +41,7 @@ module _ (w s : ℕ) (list : List ℕ) (n : ℕ) (st : Strided w s) (ok : ValidL
   abbrev R : ℕ → Route
   R = routeAt list
 
-  stands-buildable : (k : ℕ) (x : Stretch) → Stands w s R n k x → Buildable w s x
+  stands-buildable : (k : ℕ) (x : Stretch) → Stands w s R n k x → Buildable w R s (2 ^ s) x
   stands-buildable k x t = record {
     fits = record {
       ordered = t .place .rows;
@@ -48,6 +49,7 @@ module _ (w s : ℕ) (list : List ℕ) (n : ℕ) (st : Strided w s) (ok : ValidL
       portFits = omega (arith, t .place .best, last-match-le w R n ok (start w (x .depth) (t .bitsAt)) (x .lo) (omega (arith, t .place .rows, t .place .most)));
     };
     deep = fits-of w s R n ok k x t;
+    parted = stands-parted w s R n ok k x t;
   }
 
   -- the image's sizes, as they are counted
@@ -64,7 +66,7 @@ module _ (w s : ℕ) (list : List ℕ) (n : ℕ) (st : Strided w s) (ok : ValidL
 
   pub queue-of : (nodes ports : List ℕ) → nodesCount w R n s * nodeSize ≤ length nodes
       → nodesCount w R n s * (2 ^ s - 1) + 1 ≤ length ports → nodesCount w R n s < 2 ^ w → nodesCount w R n s * (2 ^ s - 1) + 1 < 2 ^ w
-      → Queue w s n (stretchSlots w R s (2 ^ s)) (stretches w R s n) nodes ports
+      → Queue w R s (2 ^ s) n (stretchSlots w R s (2 ^ s)) (stretches w R s n) nodes ports
   queue-of nodes ports rn rp few fewer =
       let l : length (stretches w R s n) ≡ nodesCount w R n s = length-stretches w s R n ok st ∙ sizes .0 in
       let m : length (treePorts (stretchSlots w R s (2 ^ s)) (stretches w R s n)) ≡ nodesCount w R n s * (2 ^ s - 1) + 1
@@ -76,7 +78,7 @@ module _ (w s : ℕ) (list : List ℕ) (n : ℕ) (st : Strided w s) (ok : ValidL
         portsRoom = omega (arith, m);
         nodesFit = omega (arith, l);
         portsFit = omega (arith, m);
-        buildable = stretches-stand w s R n ok st (Buildable w s) stands-buildable;
+        buildable = stretches-stand w s R n ok st (Buildable w R s (2 ^ s)) stands-buildable;
       }
 
 -- the root put first, and put again

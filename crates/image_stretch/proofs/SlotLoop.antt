@@ -5,7 +5,7 @@ use Prim.Native.Nat.{ℕ, zero, suc, _+_, _-_, _*_, _^_, _≤_, _<_}
 use native.Mathlib.Omega.{arith}
 use native.Mathlib.Nat.{add-zero, pow-suc, add-mul, mul-assoc, mul-comm}
 use native.Mathlib.Numerals.{add-one}
-use lib.ListN.{length, set, length-append}
+use lib.ListN.{length, set, replicate, length-append}
 use lib.Pow.{pow-mono}
 use lib.Seq.{sets, length-sets}
 use Rattle.lists.specs.Numbered.{listOf}
@@ -15,10 +15,10 @@ use Rattle.image_rules.specs.Breadth.{Slot, leaf, nonLeaf, slotChildren, slotPo
 use Rattle.lists.proofs.Flat.{flat-append}
 use Rattle.image_stretch.specs.declared.Stretch.{Stretch}
 use Rattle.image_stretch.specs.declared.Filled.{Filled}
-use Rattle.image_stretch.specs.Memory.{pending, filled, filledBy}
+use Rattle.image_stretch.specs.Memory.{pending, filled, filledBy, filledLeaves}
 
 -- stores one after the other, in two parts
-sets-append : (l : List ℕ) (i : ℕ) (vs ws : List ℕ) → sets l i (vs ++ ws) ≡ sets (sets l i vs) (i + length vs) ws
+pub sets-append : (l : List ℕ) (i : ℕ) (vs ws : List ℕ) → sets l i (vs ++ ws) ≡ sets (sets l i vs) (i + length vs) ws
 sets-append l i [] ws = ap (λ (k : ℕ). sets l k ws) (sym (add-zero i))
 sets-append l i (v ∷ vs) ws =
     let e : suc i + length vs ≡ i + suc (length vs) = omega arith in
@@ -148,3 +148,34 @@ module _ (f : ℕ → Slot Stretch) (m : ℕ) (nodes₀ ports₀ : List ℕ) (ne
         let q : st .node .0 ≡ next + length (flat slotChildren all) = omega (arith, g .queued) in
         let r : st .leaf .0 ≡ base + length (flat slotPorts all) = omega (arith, g .leaves) in
         ((λ i. record { bitmap = b i; node = record { 0 = q i }; leaf = record { 0 = r i } }), g .queue, g .written)
+
+  -- some slots at once that are leaves with one port
+  pub slot-loop-leaves : (p k : ℕ) (nodes ports : List ℕ) (j : ℕ) (st : Filled) → SlotsDone f m nodes₀ ports₀ next base nodes ports j st → j + k ≤ m
+      → ((i : ℕ) → j ≤ i → i < j + k → f i ≡ leaf p) → (j′ : ℕ) → j′ ≡ j + k → (ports′ : List ℕ) → ports′ ≡ sets ports (st .leaf .0) (replicate k p)
+      → (st′ : Filled) → st′ ≡ filledLeaves k st → SlotsDone f m nodes₀ ports₀ next base nodes ports′ j′ st′
+  slot-loop-leaves p zero nodes ports j st l h g j′ a ports′ b st′ c =
+      let e : j′ ≡ j = omega arith in
+      let z : (st .bitmap + 1) * 1 - 1 ≡ st .bitmap = omega arith in
+      let q : filledLeaves 0 st ≡ st = (λ i. record { bitmap = z i; node = st .node; leaf = record { 0 = add-zero (st .leaf .0) i } }) in
+      rw (e, b, c ∙ q) l
+  slot-loop-leaves p (suc k) nodes ports j st l h g j′ a ports′ b st′ c =
+      let o : leaf p ≡ f j = sym (g j (omega arith) (omega arith)) in
+      let one : suc (st .leaf .0) ≡ st .leaf .0 + 1 = omega arith in
+      let e2 : st .node .0 ≡ st .node .0 + 0 = omega arith in
+      let e3 : st .leaf .0 + suc k ≡ st .leaf .0 + 1 + k = omega arith in
+      let q : filledLeaves (suc k) st ≡ filledLeaves k (filledBy (leaf p) st) = (λ i. record { bitmap = bits-suc i; node = record { 0 = e2 i }; leaf = record { 0 = e3 i } }) in
+      slot-loop-leaves p k nodes (set ports (st .leaf .0) p) (j + 1) (filledBy (leaf p) st)
+      (slot-loop-more nodes ports j st l (omega arith) (leaf p) o refl refl refl) (omega arith) (λ i x y. g i (omega arith) (omega arith)) j′ (omega arith)
+      ports′ (b ∙ ap (λ (n : ℕ). sets (set ports (st .leaf .0) p) n (replicate k p)) one) st′ (c ∙ q)
+    where
+      bits-suc : (st .bitmap + 1) * 2 ^ suc k - 1 ≡ (st .bitmap * 2 + 1 + 1) * 2 ^ k - 1
+      bits-suc =
+          let e : st .bitmap * 2 + 1 + 1 ≡ (st .bitmap + 1) * 2 = omega arith in
+          ap (λ (n : ℕ). n - 1)
+          (ap (λ (n : ℕ). (st .bitmap + 1) * n) (pow-suc 2 k ∙ mul-comm (2 ^ k) 2) ∙ sym (mul-assoc (st .bitmap + 1) 2 (2 ^ k)) ∙ ap (λ (n : ℕ). n * 2 ^ k) (sym e))
+
+  pub slot-loop-leaves-room : (p k : ℕ) (nodes ports : List ℕ) (j : ℕ) (st : Filled) → SlotsDone f m nodes₀ ports₀ next base nodes ports j st → j + k ≤ m
+      → ((i : ℕ) → j ≤ i → i < j + k → f i ≡ leaf p) → base + length (flat slotPorts all) ≤ length ports₀ → st .leaf .0 + k ≤ length ports
+  slot-loop-leaves-room p k nodes ports j st l h g r =
+      let q = slot-loop-leaves p k nodes ports j st l h g (j + k) refl (sets ports (st .leaf .0) (replicate k p)) refl (filledLeaves k st) refl in
+      omega (arith, q .same .leaves, r, l .portsLent)

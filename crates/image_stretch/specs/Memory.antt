@@ -1,8 +1,11 @@
 -- Defines a builder's memory: the words of the nodes done, then the nodes still to do, each in the words of its node. So the nodes lent
 -- are the queue, and no other memory is needed: RULES, "Nodes". Assumes nothing.
+use mathlib.Core.Bool.{cond}
 use mathlib.Core.List.{List, _++_}
-use Prim.Native.Nat.{ℕ, _+_, _-_, _*_, _/_, _%_}
-use lib.ListN.{length, take, drop}
+use Prim.Native.Nat.{ℕ, _+_, _-_, _*_, _/_, _%_, _^_}
+use lib.Dec.{eqb}
+use lib.ListN.{length, take, drop, replicate}
+use lib.Seq.{sets}
 use Rattle.lists.specs.Flat.{flat, upto}
 use Rattle.image_rules.specs.Node.{nodeSize, nodeWords, offset, bitmapOf, offsetOf, baseOf, storeNodes}
 use Rattle.image_rules.specs.Breadth.{Slot, slotChildren, slotPorts, leafBit, bitmap, children, treeWords}
@@ -28,6 +31,18 @@ filled bitmap node leaf = record { bitmap = bitmap; node = record { 0 = node }; 
 -- one slot more of a node
 abbrev pub filledBy : Slot Stretch → Filled → Filled
 filledBy o st = filled (st .bitmap * 2 + leafBit o) (st .node .0 + length (slotChildren o)) (st .leaf .0 + length (slotPorts o))
+
+-- k leaves more: a one in the bitmap for each
+abbrev pub filledLeaves : ℕ → Filled → Filled
+filledLeaves k st = filled ((st .bitmap + 1) * 2 ^ k - 1) (st .node .0) (st .leaf .0 + k)
+
+-- the ports lent, with those still owed: one port from a place up to another
+abbrev pub owed : List ℕ → ℕ → ℕ → ℕ → List ℕ
+owed ports kept leaf port = sets ports kept (replicate (leaf - kept) port)
+
+-- up to where the ports are stored after a slot, which had a port exactly if there is a leaf more
+abbrev pub keptAfter : ℕ → ℕ → ℕ → ℕ
+keptAfter kept before after = cond (eqb before after) kept after
 
 -- node a built: its children are put from node next on, the first that is not in use, and then its words over its own
 abbrev pub buildNode : (Stretch → List (Slot Stretch)) → List ℕ → ℕ → ℕ → ℕ → Stretch → List ℕ

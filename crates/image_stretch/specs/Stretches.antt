@@ -3,7 +3,7 @@
 use mathlib.Core.Bool.{Bool, cond, _&&_}
 use mathlib.Core.List.{List, [], _∷_}
 use Prim.Native.Nat.{ℕ, zero, suc, _+_, _-_, _*_, _%_, _^_, _/_}
-use lib.Dec.{ltb}
+use lib.Dec.{eqb, ltb}
 use Rattle.bits.specs.Prefix.{span, matches, first, precedes}
 use Rattle.lists.specs.Numbered.{listOf}
 use Rattle.routes.specs.Scan.{routeMatches}
@@ -63,19 +63,25 @@ seekFrom w R v l port lo hi = record {
   port = lastFrom w R v port lo (past (standsBefore R v l) (hi - lo) lo - lo);
 }
 
--- the port that the slot inherits: from the routes before the one that the search starts at, and from those that it passes
-abbrev pub inheritedAt : ℕ → (ℕ → Route) → Stretch → ℕ → ℕ → ℕ → ℕ
-inheritedAt w R x at v l = lastFrom w R v (lastFrom w R v (x .best) (x .lo) (at - x .lo)) at (fromAt R x at v l - at)
+-- the port that the slot inherits: from the routes of short..at, before which none of the node's matches it, and from those that the
+-- search passes
+abbrev pub inheritedAt : ℕ → (ℕ → Route) → Stretch → ℕ → ℕ → ℕ → ℕ → ℕ
+inheritedAt w R x short at v l = lastFrom w R v (lastFrom w R v (x .best) short (at - short)) at (fromAt R x at v l - at)
 
 -- the stretch of the slot with the bits of v/l, with the port that it inherits: the search started at route `at`, and at the first of
 -- the node's routes
-unfoldable pub slotStretchAt : ℕ → (ℕ → Route) → Stretch → ℕ → ℕ → ℕ → Stretch
-slotStretchAt w R x at v l =
-    stretch (fromAt R x at v l) (toAt w R x at v l) l (inheritedAt w R x at v l)
+unfoldable pub slotStretchAt : ℕ → (ℕ → Route) → Stretch → ℕ → ℕ → ℕ → ℕ → Stretch
+slotStretchAt w R x short at v l =
+    stretch (fromAt R x at v l) (toAt w R x at v l) l (inheritedAt w R x short at v l)
 
 unfoldable pub slotStretch : ℕ → (ℕ → Route) → Stretch → ℕ → ℕ → Stretch
 slotStretch w R x v l =
     stretch (fromOf R x v l) (toOf w R x v l) l (lastFrom w R v (x .best) (x .lo) (fromOf R x v l - x .lo))
+
+-- from where on a route of the node may match a later slot, after the slot's stretch y: past y, unless a route shorter than the slots
+-- was passed on the way to it
+abbrev pub shortAfter : ℕ → Stretch → ℕ
+shortAfter short y = cond (eqb (y .lo) short) (y .hi) short
 
 -- "a route longer than d+s bits begins with the slot's d+s bits": if any route of its stretch is longer, the last one is
 abbrev pub goesOn : (ℕ → Route) → Stretch → Bool
@@ -96,8 +102,15 @@ addressOf w R x = cond (ltb (x .lo) (x .hi)) (first w (R (x .lo) .value) (x .dep
 abbrev pub slotAddress : ℕ → ℕ → ℕ → ℕ → ℕ
 slotAddress w address l j = (address + j * span w l) % 2 ^ w
 
+-- of the node x, s bits deeper
+abbrev pub slotFirst : ℕ → (ℕ → Route) → ℕ → Stretch → ℕ → ℕ
+slotFirst w R s x j = slotAddress w (addressOf w R x) (x .depth + s) j
+
+abbrev pub stretchAt : ℕ → (ℕ → Route) → ℕ → Stretch → ℕ → Stretch
+stretchAt w R s x j = slotStretch w R x (slotFirst w R s x j) (x .depth + s)
+
 abbrev pub stretchSlot : ℕ → (ℕ → Route) → ℕ → Stretch → ℕ → Slot Stretch
-stretchSlot w R s x j = slotIn R (slotStretch w R x (slotAddress w (addressOf w R x) (x .depth + s) j) (x .depth + s))
+stretchSlot w R s x j = slotIn R (stretchAt w R s x j)
 
 -- m slots of a node
 abbrev pub stretchSlots : ℕ → (ℕ → Route) → ℕ → ℕ → Stretch → List (Slot Stretch)

@@ -83,11 +83,11 @@ fn seek(list: &[u32], place: Prefix, lo: usize, hi: usize, best: u32) -> Sought
 }
 
 // The stretch of the slot with the bits of a prefix, within its node's stretch x, and the port that it inherits. The search starts at
-// route `at`: at x.lo, or where an earlier slot's stretch ended.
-pub fn slot_stretch(list: &[u32], x: Stretch, at: usize, place: Prefix) -> Stretch
-    ensures { λ r. ⌜ r ≡ slotStretchAt 32 (routeAt (now (list .entry))) x at (place .value) (place .len) ⌝ }
+// route `at`: at x.lo, or where an earlier slot's stretch ended. Of the routes before it only those from `short` on may match.
+pub fn slot_stretch(list: &[u32], x: Stretch, short: usize, at: usize, place: Prefix) -> Stretch
+    ensures { λ r. ⌜ r ≡ slotStretchAt 32 (routeAt (now (list .entry))) x short at (place .value) (place .len) ⌝ }
 {
-    let inherited = last_match(list, place.value, x.best, x.lo, at);
+    let inherited = last_match(list, place.value, x.best, short, at);
     let found = seek(list, place, at, x.hi, inherited);
     let hi = first_apart(list, place, found.route, x.hi);
     Stretch {

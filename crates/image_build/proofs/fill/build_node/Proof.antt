@@ -19,7 +19,7 @@ fill-node-requires c κs =
     let d = c .before .before .before .before .before .before .before .before .before in
     let a = d .args in
     let x = c .before .before .before .before .pending-at in
-    let r = fill-needs (stretchSlots 32 (routeAt (now (a .list))) (a .stride) (a .slots)) 32 (a .stride) (now (a .nodes)) (now (a .ports)) (a .st .node .0) (a .st .leaf .0)
+    let r = fill-needs (stretchSlots 32 (routeAt (now (a .list))) (a .stride) (a .slots)) 32 (routeAt (now (a .list))) (a .stride) (a .slots) (now (a .nodes)) (now (a .ports)) (a .st .node .0) (a .st .leaf .0)
     (x .result) (pendingAt (now (a .nodes)) (a .at .0)) (x .ensures) (d .pre .5) (d .pre .6) (d .pre .7) in
     (d .pre .0, r .0, omega (arith, d .pre .2), r .1, r .2)
 

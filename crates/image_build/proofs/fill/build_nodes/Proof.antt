@@ -28,7 +28,7 @@ loop-holds : tie.Need-loop-holds Inv-loop μ-loop
 loop-holds c =
     let d = c .before .before .before in
     let a = d .args in
-    queue-loop-none 32 (a .stride) (a .n) (stretchSlots 32 (routeAt (now (a .list))) (a .stride) (a .slots)) (allOf (now (a .list)) (a .n) (a .stride) (a .slots))
+    queue-loop-none 32 (routeAt (now (a .list))) (a .stride) (a .slots) (a .n) (stretchSlots 32 (routeAt (now (a .list))) (a .stride) (a .slots)) (allOf (now (a .list)) (a .n) (a .stride) (a .slots))
     (now (a .nodes)) (now (a .ports)) (d .pre .2) (d .pre .1) refl
 
 build-node-requires : tie.Need-build-node-requires Inv-loop μ-loop
@@ -37,10 +37,10 @@ build-node-requires c κs =
     let a = d .args in
     let l = c .before .before .before .before .before .loop in
     let h = c .before .before .if1 .taken in
-    let q = queue-loop-room 32 (a .stride) (a .n) (stretchSlots 32 (routeAt (now (a .list))) (a .stride) (a .slots)) (allOf (now (a .list)) (a .n) (a .stride) (a .slots))
+    let q = queue-loop-room 32 (routeAt (now (a .list))) (a .stride) (a .slots) (a .n) (stretchSlots 32 (routeAt (now (a .list))) (a .stride) (a .slots)) (allOf (now (a .list)) (a .n) (a .stride) (a .slots))
     (now (a .nodes)) (now (a .ports)) (d .pre .2) (l .nodes) (l .ports) (l .at .0) (l .st) (l .inv) h in (
       d .pre .0,
-      queue-loop-number 32 (a .stride) (a .n) (stretchSlots 32 (routeAt (now (a .list))) (a .stride) (a .slots)) (allOf (now (a .list)) (a .n) (a .stride) (a .slots))
+      queue-loop-number 32 (routeAt (now (a .list))) (a .stride) (a .slots) (a .n) (stretchSlots 32 (routeAt (now (a .list))) (a .stride) (a .slots)) (allOf (now (a .list)) (a .n) (a .stride) (a .slots))
           (now (a .nodes)) (now (a .ports)) (d .pre .2) (l .nodes) (l .ports) (l .at .0) (l .st) (l .inv) .0,
       h,
       q .0,
@@ -59,14 +59,14 @@ loop-less c =
     let a = d .args in
     let l = c .before .before .before .before .before .before .before .before .before .before .before .loop in
     let h = c .before .before .before .before .before .before .before .before .if1 .taken in
-    let g = queue-loop-in 32 (a .stride) (a .n) (stretchSlots 32 (routeAt (now (a .list))) (a .stride) (a .slots)) (allOf (now (a .list)) (a .n) (a .stride) (a .slots))
+    let g = queue-loop-in 32 (routeAt (now (a .list))) (a .stride) (a .slots) (a .n) (stretchSlots 32 (routeAt (now (a .list))) (a .stride) (a .slots)) (allOf (now (a .list)) (a .n) (a .stride) (a .slots))
     (now (a .nodes)) (now (a .ports)) (d .pre .2) (l .nodes) (l .ports) (l .at .0) (l .st) (l .inv) h in
     omega (
       arith,
       g,
       c .plus .ensures,
       h,
-      queue-loop-room 32 (a .stride) (a .n) (stretchSlots 32 (routeAt (now (a .list))) (a .stride) (a .slots)) (allOf (now (a .list)) (a .n) (a .stride) (a .slots))
+      queue-loop-room 32 (routeAt (now (a .list))) (a .stride) (a .slots) (a .n) (stretchSlots 32 (routeAt (now (a .list))) (a .stride) (a .slots)) (allOf (now (a .list)) (a .n) (a .stride) (a .slots))
           (now (a .nodes)) (now (a .ports)) (d .pre .2) (l .nodes) (l .ports) (l .at .0) (l .st) (l .inv) h .0,
     )
 
@@ -81,10 +81,10 @@ loop-again c =
       arith,
       c .plus .ensures,
       h,
-      queue-loop-room 32 (a .stride) (a .n) (stretchSlots 32 (routeAt (now (a .list))) (a .stride) (a .slots)) (allOf (now (a .list)) (a .n) (a .stride) (a .slots))
+      queue-loop-room 32 (routeAt (now (a .list))) (a .stride) (a .slots) (a .n) (stretchSlots 32 (routeAt (now (a .list))) (a .stride) (a .slots)) (allOf (now (a .list)) (a .n) (a .stride) (a .slots))
           (now (a .nodes)) (now (a .ports)) (d .pre .2) (l .nodes) (l .ports) (l .at .0) (l .st) (l .inv) h .0,
     ) in
-    queue-loop-more 32 (a .stride) (a .n) (stretchSlots 32 (routeAt (now (a .list))) (a .stride) (a .slots)) (allOf (now (a .list)) (a .n) (a .stride) (a .slots))
+    queue-loop-more 32 (routeAt (now (a .list))) (a .stride) (a .slots) (a .n) (stretchSlots 32 (routeAt (now (a .list))) (a .stride) (a .slots)) (allOf (now (a .list)) (a .n) (a .stride) (a .slots))
     (now (a .nodes)) (now (a .ports)) (d .pre .2) (l .nodes) (l .ports) (l .at .0) (l .st) (l .inv) h e (f .ensures .0) (f .ensures .1) (f .ensures .2)
 
 same-length : tie.Need-same-length Inv-loop μ-loop
@@ -98,7 +98,7 @@ returns c =
     let d = c .before .before .before .before .before .before .before in
     let a = d .args in
     let l = c .before .before .before .loop in
-    queue-loop-all 32 (a .stride) (a .n) (stretchSlots 32 (routeAt (now (a .list))) (a .stride) (a .slots)) (allOf (now (a .list)) (a .n) (a .stride) (a .slots))
+    queue-loop-all 32 (routeAt (now (a .list))) (a .stride) (a .slots) (a .n) (stretchSlots 32 (routeAt (now (a .list))) (a .stride) (a .slots)) (allOf (now (a .list)) (a .n) (a .stride) (a .slots))
     (now (a .nodes)) (now (a .ports)) (d .pre .2) (l .nodes) (l .ports) (l .at .0) (l .st) (l .inv) (c .if1 .left)
 
 pub build-nodes-spec : {M : Type 1} → statement M

@@ -1,23 +1,33 @@
-use mathlib.Core.Path.{_≡_, ap, _∙_}
-use Prim.Native.Nat.{_+_, _-_}
+use mathlib.Core.Path.{_≡_, sym, ap, _∙_, subst}
+use mathlib.Core.List.{List}
+use Prim.Native.Nat.{ℕ, _+_, _-_, _≤_}
 use native.Mathlib.Omega.{arith}
 use denote.Ref.{now}
-use Rattle.prefix.specs.declared.Prefix.{Prefix}
+use lib.ListN.{length, replicate}
+use lib.Pow.{pow-mono}
+use lib.Seq.{length-sets}
 use Rattle.routes.specs.Routes.{routeAt}
-use Rattle.image_stretch.specs.Stretches.{slotIn, stretchSlot}
-use Rattle.image_stretch.proofs.FirstAndLast.{slot-stretch-first}
-use Rattle.image_stretch.proofs.SlotLoop.{SlotsDone, slot-loop-none, slot-loop-more, slot-loop-room, slot-loop-all}
+use Rattle.image_stretch.specs.declared.Filled.{Filled}
+use Rattle.image_stretch.specs.Memory.{filled, owed}
+use Rattle.image_stretch.specs.Needs.{Clear}
+use Rattle.image_stretch.specs.Stretches.{slotIn, addressOf, stretchSlot}
+use Rattle.image_stretch.proofs.Resuming.{Resumed, resumed-none, resumed-later, resumed-more, clear-slot}
+use Rattle.image_stretch.proofs.SlotLoop.{SlotsDone, slot-loop-none, slot-loop-more, slot-loop-room, slot-loop-leaves, slot-loop-leaves-room, slot-loop-all}
+use Rattle.image_build.proofs.LeafSlots.{ports-all, owed-more, kept-le}
 use Rattle.image_build.proofs.SlotReturns.{slot-found, slot-needs}
 use borrow.Author.Needs.{needs}
 use Rattle.image_build.proofs.fill.fill_node.Statement.{statement}
 use Rattle.image_build.proofs.fill.fill_node.Tie as tie
 
 abbrev Inv-loop : tie.InvT-loop
-Inv-loop list x stride slots nodes₀ ports₀ address depth j₀ st₀ nodes ports j st =
-    SlotsDone (stretchSlot 32 (routeAt list) stride x) slots nodes₀ ports₀ (st₀ .node .0) (st₀ .leaf .0) nodes ports j st
+Inv-loop list x stride slots nodes₀ ports₀ address depth j₀ short₀ route₀ clear₀ kept₀ st₀ nodes ports j short route clear kept st =
+    SlotsDone (stretchSlot 32 (routeAt list) stride x) slots nodes₀ ports₀ (st₀ .node .0) (st₀ .leaf .0) nodes (owed ports kept (st .leaf .0) (x .best)) j st
+    × Resumed 32 (routeAt list) stride slots x j short route
+    × Clear 32 (routeAt list) slots x short route (addressOf 32 (routeAt list) x) (x .depth + stride) clear
+    × (kept ≤ st .leaf .0)
 
 abbrev μ-loop : tie.MeasureT-loop
-μ-loop list x stride slots nodes₀ ports₀ address depth j₀ st₀ nodes ports j st = slots - j
+μ-loop list x stride slots nodes₀ ports₀ address depth j₀ short₀ route₀ clear₀ kept₀ st₀ nodes ports j short route clear kept st = slots - j
 
 address-of-requires : tie.Need-address-of-requires Inv-loop μ-loop
 address-of-requires c κs = search needs
@@ -25,11 +35,56 @@ address-of-requires c κs = search needs
 add-depth : tie.Need-add-depth Inv-loop μ-loop
 add-depth c = search needs
 
+clear-to-requires : tie.Need-clear-to-requires Inv-loop μ-loop
+clear-to-requires c κs = search needs
+
 loop-holds : tie.Need-loop-holds Inv-loop μ-loop
 loop-holds c =
-    let d = c .before .before .before .before .before .before .before in
+    let d = c .before .before .before .before .before .before .before .before in
+    let a = d .args in (
+      subst (λ (ps : List ℕ). SlotsDone (stretchSlot 32 (routeAt (now (a .list))) (a .stride) (a .x)) (a .slots) (now (a .nodes)) (now (a .ports)) (a .at .node .0) (a .at .leaf .0) (now (a .nodes)) ps 0 (filled 0 (a .at .node .0) (a .at .leaf .0)))
+          (sym (ports-all (now (a .ports)) (a .at .leaf .0) (a .at .leaf .0) (a .x .best) (omega arith)))
+          (slot-loop-none (stretchSlot 32 (routeAt (now (a .list))) (a .stride) (a .x)) (a .slots) (now (a .nodes)) (now (a .ports)) (a .at .node .0) (a .at .leaf .0) (d .pre .2)),
+      resumed-none 32 (routeAt (now (a .list))) (a .stride) (a .slots) (a .x) (d .pre .1 .fits),
+      subst (λ (k : ℕ). Clear 32 (routeAt (now (a .list))) (a .slots) (a .x) (a .x .lo) (a .x .lo) k (a .x .depth + a .stride) (c .clear-to .result)) (c .before .before .before .before .address-of .ensures) (c .clear-to .ensures),
+      omega arith,
+    )
+
+sub-skip-leaves : tie.Need-sub-skip-leaves Inv-loop μ-loop
+sub-skip-leaves c = search needs
+
+skip-leaves-requires : tie.Need-skip-leaves-requires Inv-loop μ-loop
+skip-leaves-requires c κs =
+    let d = c .before .before .before .before .before .before .before .before .before .before .before in
     let a = d .args in
-    slot-loop-none (stretchSlot 32 (routeAt (now (a .list))) (a .stride) (a .x)) (a .slots) (now (a .nodes)) (now (a .ports)) (a .at .node .0) (a .at .leaf .0) (d .pre .2)
+    let l = c .before .before .loop in
+    let h = c .before .loop-test .taken in
+    let r = slot-loop-leaves-room (stretchSlot 32 (routeAt (now (a .list))) (a .stride) (a .x)) (a .slots) (now (a .nodes)) (now (a .ports)) (a .at .node .0) (a .at .leaf .0) (a .x .best) (l .clear - l .j) (l .nodes) (owed (l .ports) (l .kept) (l .st .leaf .0) (a .x .best)) (l .j) (l .st) (l .inv .0) (omega (arith, l .inv .2 .few, h))
+    (λ i p q. clear-slot 32 (routeAt (now (a .list))) (a .stride) (a .slots) (a .x) (d .pre .1 .fits) (l .j) (l .short) (l .route) (l .inv .1) (l .clear) (l .inv .2) i p (omega arith)) (d .pre .4) in (
+      omega (arith, l .inv .2 .few, d .pre .0),
+      omega (arith, l .inv .0 .small, pow-mono {i = l .j} {j = 16} (omega (arith, h, d .pre .0))),
+      omega (arith, r, l .inv .0 .portsLent),
+    )
+
+loop-less : tie.Need-loop-less Inv-loop μ-loop
+loop-less c = omega (arith, c .before .if1 .taken, c .before .before .loop-test .taken, c .before .before .before .loop .inv .2 .few)
+
+loop-again : tie.Need-loop-again Inv-loop μ-loop
+loop-again c =
+    let d = c .before .before .before .before .before .before .before .before .before .before .before .before in
+    let a = d .args in
+    let l = c .before .before .before .loop in
+    let h = c .before .if1 .taken in
+    let f = c .skip-leaves in
+    let e : f .result .leaf .0 ≡ l .st .leaf .0 + (l .clear - l .j) = ap (λ (u : Filled). u .leaf .0) (f .ensures) in (
+      slot-loop-leaves (stretchSlot 32 (routeAt (now (a .list))) (a .stride) (a .x)) (a .slots) (now (a .nodes)) (now (a .ports)) (a .at .node .0) (a .at .leaf .0) (a .x .best) (l .clear - l .j) (l .nodes) (owed (l .ports) (l .kept) (l .st .leaf .0) (a .x .best)) (l .j) (l .st) (l .inv .0) (omega (arith, l .inv .2 .few, h))
+          (λ i p q. clear-slot 32 (routeAt (now (a .list))) (a .stride) (a .slots) (a .x) (d .pre .1 .fits) (l .j) (l .short) (l .route) (l .inv .1) (l .clear) (l .inv .2) i p (omega arith))
+          (l .clear) (omega (arith, h)) (owed (l .ports) (l .kept) (f .result .leaf .0) (a .x .best))
+          (owed-more (l .ports) (l .kept) (l .st .leaf .0) (l .clear - l .j) (f .result .leaf .0) (a .x .best) (l .inv .3) e) (f .result) (f .ensures),
+      resumed-later 32 (routeAt (now (a .list))) (a .stride) (a .slots) (a .x) (d .pre .1 .fits) (l .j) (l .short) (l .route) (l .inv .1) (l .clear) (omega (arith, h)),
+      l .inv .2,
+      omega (arith, e, l .inv .3),
+    )
 
 slot-place-requires : tie.Need-slot-place-requires Inv-loop μ-loop
 slot-place-requires c κs = search needs
@@ -39,53 +94,81 @@ slot-stretch-requires c κs = search needs
 
 fill-slot-requires : tie.Need-fill-slot-requires Inv-loop μ-loop
 fill-slot-requires c κs =
-    let d = c .before .before .before .before .before .before .before .before .before .before .before .before .before in
+    let d = c .before .before .before .before .before .before .before .before .before .before .before .before .before .before .before .before in
     let a = d .args in
-    let l = c .before .before .before .before .before .loop in
-    let y = c .before .before .slot-stretch in
-    let p = c .before .before .before .slot-place in
-    let g = c .before .before .before .before .before .before .before .before .before .address-of in
-    let z = y .ensures ∙ slot-stretch-first 32 (routeAt (now (a .list))) (a .x) (p .result .value) (p .result .len) in
-    let e = slot-found 32 (routeAt (now (a .list))) (a .stride) (a .x) (y .result) (g .result) (l .j) (p .result) (g .ensures) (p .ensures) z in
+    let l = c .before .before .before .before .before .before .before .loop in
+    let y = c .before .before .before .slot-stretch in
+    let p = c .before .before .before .before .slot-place in
+    let g = c .before .before .before .before .before .before .before .before .before .before .before .before .address-of in
+    let h = c .before .before .before .before .before .before .loop-test .taken in
+    let e = slot-found 32 (routeAt (now (a .list))) (a .stride) (a .slots) (a .x) (y .result) (g .result) (l .j) (l .short) (l .route) (p .result)
+    (d .pre .1 .fits) (l .inv .1) h (g .ensures) (p .ensures) (y .ensures) in
     let r = slot-loop-room (stretchSlot 32 (routeAt (now (a .list))) (a .stride) (a .x)) (a .slots) (now (a .nodes)) (now (a .ports)) (a .at .node .0) (a .at .leaf .0)
-    (l .nodes) (l .ports) (l .j) (l .st) (l .inv) (c .before .before .before .before .loop-test .taken) (d .pre .0) (slotIn (routeAt (now (a .list))) (y .result)) e (d .pre .3) (d .pre .4) in
-    let f = slot-needs 32 (routeAt (now (a .list))) (a .x) (y .result) (p .result .value) (p .result .len) z (d .pre .1 .fits) in
-    let deep : y .result .depth ≡ a .x .depth + a .stride = f .1 ∙ ap (λ (q : Prefix). q .len) (p .ensures) in
-    (f .0, omega (arith, deep, d .pre .1 .deep), r .0, l .inv .numbered, r .1, r .2)
+    (l .nodes) (owed (l .ports) (l .kept) (l .st .leaf .0) (a .x .best)) (l .j) (l .st) (l .inv .0) h (d .pre .0) (slotIn (routeAt (now (a .list))) (y .result)) (ap (slotIn (routeAt (now (a .list)))) e) (d .pre .3) (d .pre .4) in
+    let f = slot-needs 32 (routeAt (now (a .list))) (a .stride) (a .x) (y .result) (l .j) e (d .pre .1 .fits) in
+    (l .inv .3, d .pre .1 .fits .portFits, f .0, omega (arith, f .1, d .pre .1 .deep), r .0, l .inv .0 .numbered, r .1, omega (arith, r .2, length-sets (l .ports) (l .kept) (replicate (l .st .leaf .0 - l .kept) (a .x .best))))
+
+kept-after-requires : tie.Need-kept-after-requires Inv-loop μ-loop
+kept-after-requires c κs = search needs
+
+short-after-requires : tie.Need-short-after-requires Inv-loop μ-loop
+short-after-requires c κs = search needs
+
+clear-to-requires-2 : tie.Need-clear-to-requires-2 Inv-loop μ-loop
+clear-to-requires-2 c κs = omega (arith, c .before .before .before .before .before .before .before .before .before .before .before .before .before .before .before .before .before .before .before .before .before .before .before .before .pre .1 .deep)
 
 add-j : tie.Need-add-j Inv-loop μ-loop
-add-j c = omega (arith, c .before .before .before .before .before .before .before .before .before .loop-test .taken, c .before .before .before .before .before .before .before .before .before .before .before .before .before .before .before .before .before .before .pre .0)
+add-j c = omega (arith, c .before .before .before .before .before .before .before .before .before .before .before .before .before .before .before .loop-test .taken, c .before .before .before .before .before .before .before .before .before .before .before .before .before .before .before .before .before .before .before .before .before .before .before .before .before .pre .0)
 
-loop-less : tie.Need-loop-less Inv-loop μ-loop
-loop-less c = search needs
+loop-less-2 : tie.Need-loop-less-2 Inv-loop μ-loop
+loop-less-2 c = omega (arith, c .before .before .before .before .before .before .before .before .before .before .before .before .before .before .before .loop-test .taken)
 
-loop-again : tie.Need-loop-again Inv-loop μ-loop
-loop-again c =
-    let d = c .before .before .before .before .before .before .before .before .before .before .before .before .before .before .before .before .before .before in
+loop-again-2 : tie.Need-loop-again-2 Inv-loop μ-loop
+loop-again-2 c =
+    let d = c .before .before .before .before .before .before .before .before .before .before .before .before .before .before .before .before .before .before .before .before .before .before .before .before .before in
     let a = d .args in
-    let l = c .before .before .before .before .before .before .before .before .before .before .loop in
-    let y = c .before .before .before .before .before .before .before .slot-stretch in
-    let p = c .before .before .before .before .before .before .before .before .slot-place in
-    let g = c .before .before .before .before .before .before .before .before .before .before .before .before .before .before .address-of in
-    let z = y .ensures ∙ slot-stretch-first 32 (routeAt (now (a .list))) (a .x) (p .result .value) (p .result .len) in
-    let e = slot-found 32 (routeAt (now (a .list))) (a .stride) (a .x) (y .result) (g .result) (l .j) (p .result) (g .ensures) (p .ensures) z in
-    let f = c .before .before .before .before .fill-slot in
-    slot-loop-more (stretchSlot 32 (routeAt (now (a .list))) (a .stride) (a .x)) (a .slots) (now (a .nodes)) (now (a .ports)) (a .at .node .0) (a .at .leaf .0)
-    (l .nodes) (l .ports) (l .j) (l .st) (l .inv) (c .before .before .before .before .before .before .before .before .before .loop-test .taken) (slotIn (routeAt (now (a .list))) (y .result)) e (f .ensures .0) (f .ensures .1) (f .ensures .2)
+    let l = c .before .before .before .before .before .before .before .before .before .before .before .before .before .before .before .before .loop in
+    let y = c .before .before .before .before .before .before .before .before .before .before .before .before .slot-stretch in
+    let p = c .before .before .before .before .before .before .before .before .before .before .before .before .before .slot-place in
+    let g = c .before .before .before .before .before .before .before .before .before .before .before .before .before .before .before .before .before .before .before .before .before .address-of in
+    let h = c .before .before .before .before .before .before .before .before .before .before .before .before .before .before .before .loop-test .taken in
+    let e = slot-found 32 (routeAt (now (a .list))) (a .stride) (a .slots) (a .x) (y .result) (g .result) (l .j) (l .short) (l .route) (p .result)
+    (d .pre .1 .fits) (l .inv .1) h (g .ensures) (p .ensures) (y .ensures) in
+    let f = c .before .before .before .before .before .before .before .before .fill-slot in
+    let k = c .before .before .kept-after in
+    let n = c .before .short-after in (
+      slot-loop-more (stretchSlot 32 (routeAt (now (a .list))) (a .stride) (a .x)) (a .slots) (now (a .nodes)) (now (a .ports)) (a .at .node .0) (a .at .leaf .0)
+          (l .nodes) (owed (l .ports) (l .kept) (l .st .leaf .0) (a .x .best)) (l .j) (l .st) (l .inv .0) h (slotIn (routeAt (now (a .list))) (y .result)) (ap (slotIn (routeAt (now (a .list)))) e) (f .ensures .0) (f .ensures .1)
+          (f .ensures .2 (k .result) (k .ensures)),
+      resumed-more 32 (routeAt (now (a .list))) (a .stride) (a .slots) (a .x) (d .pre .1 .fits) (l .j) (l .short) (l .route) (l .inv .1) (d .pre .1 .parted) h
+          (y .result) e (n .result) (n .ensures),
+      subst (λ (k : ℕ). Clear 32 (routeAt (now (a .list))) (a .slots) (a .x) (n .result) (y .result .hi) k (a .x .depth + a .stride) (c .clear-to2 .result)) (g .ensures) (c .clear-to2 .ensures),
+      kept-le (l .kept) (l .st .leaf .0) (f .result .leaf .0) (k .result) (l .inv .3) (k .ensures),
+    )
+
+cast-store-ports : tie.Need-cast-store-ports Inv-loop μ-loop
+cast-store-ports c = omega (arith, c .before .before .before .before .before .before .before .before .before .before .before .before .before .pre .1 .fits .portFits)
+
+store-ports-requires : tie.Need-store-ports-requires Inv-loop μ-loop
+store-ports-requires c κs =
+    let d = c .before .before .before .before .before .before .before .before .before .before .before .before .before in
+    let a = d .args in
+    let l = c .before .before .before .before .loop in
+    (l .inv .3, omega (arith, l .inv .0 .same .leaves, d .pre .4, l .inv .0 .portsLent, length-sets (l .ports) (l .kept) (replicate (l .st .leaf .0 - l .kept) (a .x .best))))
 
 same-length : tie.Need-same-length Inv-loop μ-loop
-same-length c = c .before .loop .inv .nodesLent
+same-length c = c .before .before .before .before .before .before .before .loop .inv .0 .nodesLent
 
 same-length-2 : tie.Need-same-length-2 Inv-loop μ-loop
-same-length-2 c = c .before .loop .inv .portsLent
+same-length-2 c = ap length (c .before .before .store-ports .ensures) ∙ c .before .before .before .before .before .before .before .loop .inv .0 .portsLent
 
 returns : tie.Need-returns Inv-loop μ-loop
 returns c =
-    let d = c .before .before .before .before .before .before .before .before .before in
+    let d = c .before .before .before .before .before .before .before .before .before .before .before .before .before .before .before .before in
     let a = d .args in
-    let l = c .before .loop in
-    slot-loop-all (stretchSlot 32 (routeAt (now (a .list))) (a .stride) (a .x)) (a .slots) (now (a .nodes)) (now (a .ports)) (a .at .node .0) (a .at .leaf .0)
-    (l .nodes) (l .ports) (l .j) (l .st) (l .inv) (c .loop-test .left)
+    let l = c .before .before .before .before .before .before .before .loop in
+    let o = slot-loop-all (stretchSlot 32 (routeAt (now (a .list))) (a .stride) (a .x)) (a .slots) (now (a .nodes)) (now (a .ports)) (a .at .node .0) (a .at .leaf .0) (l .nodes) (owed (l .ports) (l .kept) (l .st .leaf .0) (a .x .best)) (l .j) (l .st) (l .inv .0) (c .before .before .before .before .before .before .loop-test .left) in
+    (o .0, o .1, c .before .before .store-ports .ensures ∙ o .2)
 
 pub fill-node-spec : {M : Type 1} → statement M
 fill-node-spec =
@@ -95,13 +178,23 @@ fill-node-spec =
     μ-loop
     address-of-requires
     add-depth
+    clear-to-requires
     loop-holds
+    sub-skip-leaves
+    skip-leaves-requires
+    loop-less
+    loop-again
     slot-place-requires
     slot-stretch-requires
     fill-slot-requires
+    kept-after-requires
+    short-after-requires
+    clear-to-requires-2
     add-j
-    loop-less
-    loop-again
+    loop-less-2
+    loop-again-2
+    cast-store-ports
+    store-ports-requires
     same-length
     same-length-2
     returns)

@@ -1,9 +1,9 @@
 use mathlib.Core.Path.{_≡_, sym, ap, _∙_}
-use Prim.Native.Nat.{_+_}
+use Prim.Native.Nat.{_+_, _-_}
 use native.Mathlib.Omega.{arith}
 use denote.Ref.{now}
-use lib.ListN.{length}
-use lib.Seq.{sets}
+use lib.ListN.{length, replicate}
+use lib.Seq.{length-sets}
 use Rattle.routes.specs.Routes.{routeAt}
 use Rattle.lists.specs.Flat.{flat}
 use Rattle.image_rules.specs.Node.{storeNodes}
@@ -12,6 +12,7 @@ use Rattle.image_stretch.specs.declared.Stretch.{Stretch}
 use Rattle.image_stretch.specs.Stretches.{slotIn}
 use Rattle.image_stretch.specs.Memory.{pending}
 use Rattle.image_stretch.proofs.Bounds.{leaf-port-lt}
+use Rattle.image_build.proofs.LeafSlots.{owed-goes, owed-ends}
 use Rattle.image_build.proofs.SlotReturns.{slot-goes, slot-ends, filled-goes, filled-ends}
 use borrow.Author.Needs.{needs}
 use Rattle.image_build.proofs.fill.fill_slot.Statement.{statement}
@@ -26,10 +27,10 @@ store-pending-requires c κs =
     let a = d .args in
     let o = slot-goes (routeAt (now (a .list))) (a .y) _ (c .before .before .goes-on .ensures) (c .before .if1 .taken) in
     let n : length (slotChildren (slotIn (routeAt (now (a .list))) (a .y))) ≡ 1 = ap (λ (s : Slot Stretch). length (slotChildren s)) o in
-    (d .pre .0, d .pre .1, record { positive = d .pre .3; within = omega (arith, n, d .pre .3, d .pre .4) })
+    (d .pre .2, d .pre .3, record { positive = d .pre .5; within = omega (arith, n, d .pre .5, d .pre .6) })
 
-mul-t13 : tie.Need-mul-t13
-mul-t13 c = search needs
+mul-t15 : tie.Need-mul-t15
+mul-t15 c = search needs
 
 plus-requires : tie.Need-plus-requires
 plus-requires c κs = search needs
@@ -43,36 +44,43 @@ returns c =
     let a = d .args in
     let o = slot-goes (routeAt (now (a .list))) (a .y) _ (c .before .before .before .before .before .before .before .goes-on .ensures) (c .before .before .before .before .before .before .if1 .taken) in
     let n : length (slotChildren (slotIn (routeAt (now (a .list))) (a .y))) ≡ 1 = ap (λ (s : Slot Stretch). length (slotChildren s)) o in
-    let next : c .plus .result .0 ≡ a .st .node .0 + 1 = omega (arith, c .plus .ensures, n, d .pre .4) in (
+    let next : c .plus .result .0 ≡ a .st .node .0 + 1 = omega (arith, c .plus .ensures, n, d .pre .6) in (
       filled-goes (slotIn (routeAt (now (a .list))) (a .y)) (a .y) (a .st) (c .plus .result) o next,
       c .before .before .before .before .store-pending .ensures ∙ ap (λ (s : Slot Stretch). storeNodes (now (a .nodes)) (a .st .node .0) (flat pending (slotChildren s))) (sym o),
-      ap (λ (s : Slot Stretch). sets (now (a .ports)) (a .st .leaf .0) (slotPorts s)) (sym o),
+      owed-goes (now (a .ports)) (a .kept) (a .st .leaf .0) (a .best) (slotIn (routeAt (now (a .list))) (a .y)) o,
     )
+
+cast-store-ports : tie.Need-cast-store-ports
+cast-store-ports c = search needs
+
+store-ports-requires : tie.Need-store-ports-requires
+store-ports-requires c κs = search needs
 
 leaf-port-requires : tie.Need-leaf-port-requires
 leaf-port-requires c κs = search needs
 
 cast-ports : tie.Need-cast-ports
 cast-ports c =
-    let d = c .before .before .before .before .before .before .before .before in
-    omega (arith, c .leaf-port .ensures, leaf-port-lt (routeAt (now (d .args .list))) (d .args .y) (d .pre .0 .portFits))
+    let d = c .before .before .before .before .before .before .before .before .before .before .before .before in
+    omega (arith, c .leaf-port .ensures, leaf-port-lt (routeAt (now (d .args .list))) (d .args .y) (d .pre .2 .portFits))
 
 mul-ports : tie.Need-mul-ports
 mul-ports c = search needs
 
 slice-write-ports : tie.Need-slice-write-ports
 slice-write-ports c =
-    let d = c .before .before .before .before .before .before .before .before in
+    let d = c .before .before .before .before .before .before .before .before .before .before .before .before in
     let a = d .args in
-    let o = slot-ends (routeAt (now (a .list))) (a .y) _ _ (c .before .before .goes-on .ensures) (c .before .if1 .left) (c .leaf-port .ensures) in
+    let o = slot-ends (routeAt (now (a .list))) (a .y) _ _ (c .before .before .before .before .before .before .goes-on .ensures) (c .before .before .before .before .before .if1 .left) (c .leaf-port .ensures) in
     let n : length (slotPorts (slotIn (routeAt (now (a .list))) (a .y))) ≡ 1 = ap (λ (s : Slot Stretch). length (slotPorts s)) o in
-    omega (arith, n, d .pre .5)
+    let q = c .before .before .before .store-ports .ensures in
+    omega (arith, n, d .pre .7, ap length q, length-sets (now (a .ports)) (a .kept) (replicate (a .st .leaf .0 - a .kept) (a .best)))
 
-mul-t16 : tie.Need-mul-t16
-mul-t16 c = search needs
+mul-t22 : tie.Need-mul-t22
+mul-t22 c = search needs
 
-add-t20 : tie.Need-add-t20
-add-t20 c = search needs
+add-t25 : tie.Need-add-t25
+add-t25 c = search needs
 
 after-requires : tie.Need-after-requires
 after-requires c κs = search needs
@@ -82,14 +90,14 @@ same-length-2 c = search needs
 
 returns-2 : tie.Need-returns-2
 returns-2 c =
-    let d = c .before .before .before .before .before .before .before .before .before .before in
+    let d = c .before .before .before .before .before .before .before .before .before .before .before .before .before .before in
     let a = d .args in
-    let o = slot-ends (routeAt (now (a .list))) (a .y) _ _ (c .before .before .before .before .goes-on .ensures) (c .before .before .before .if1 .left) (c .before .before .leaf-port .ensures) in
+    let o = slot-ends (routeAt (now (a .list))) (a .y) _ _ (c .before .before .before .before .before .before .before .before .goes-on .ensures) (c .before .before .before .before .before .before .before .if1 .left) (c .before .before .leaf-port .ensures) in
     let n : length (slotPorts (slotIn (routeAt (now (a .list))) (a .y))) ≡ 1 = ap (λ (s : Slot Stretch). length (slotPorts s)) o in
-    let next : c .after .result .0 ≡ a .st .leaf .0 + 1 = omega (arith, c .after .ensures, n, d .pre .5) in (
+    let next : c .after .result .0 ≡ a .st .leaf .0 + 1 = omega (arith, c .after .ensures, n, d .pre .7) in (
       filled-ends (slotIn (routeAt (now (a .list))) (a .y)) _ (a .st) (c .after .result) o next,
       ap (λ (s : Slot Stretch). storeNodes (now (a .nodes)) (a .st .node .0) (flat pending (slotChildren s))) (sym o),
-      ap (λ (s : Slot Stretch). sets (now (a .ports)) (a .st .leaf .0) (slotPorts s)) (sym o),
+      owed-ends (now (a .ports)) _ (a .kept) (a .st .leaf .0) (c .after .result .0) (a .best) (c .before .before .leaf-port .result) (slotIn (routeAt (now (a .list))) (a .y)) o next (c .before .before .before .before .before .store-ports .ensures),
     )
 
 pub fill-slot-spec : {M : Type 1} → statement M
@@ -98,16 +106,18 @@ fill-slot-spec =
     (tie.spec
     goes-on-requires
     store-pending-requires
-    mul-t13
+    mul-t15
     plus-requires
     same-length
     returns
+    cast-store-ports
+    store-ports-requires
     leaf-port-requires
     cast-ports
     mul-ports
     slice-write-ports
-    mul-t16
-    add-t20
+    mul-t22
+    add-t25
     after-requires
     same-length-2
     returns-2)

@@ -18,7 +18,7 @@ returns : tie.Need-returns
 returns c =
     let a = c .before .before .before .before .args in
     let m = c .before .before .last-match in
-    slot-stretch-is 32 (routeAt (now (a .list))) (a .x) (a .at) (a .place .value) (a .place .len) (m .result) (c .first-apart .result) (c .before .seek .result)
+    slot-stretch-is 32 (routeAt (now (a .list))) (a .x) (a .short) (a .at) (a .place .value) (a .place .len) (m .result) (c .first-apart .result) (c .before .seek .result)
     (m .ensures) (c .before .seek .ensures) (c .first-apart .ensures)
 
 pub slot-stretch-spec : {M : Type 1} → statement M

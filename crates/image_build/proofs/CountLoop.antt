@@ -1,9 +1,10 @@
 -- The count of the nodes, as the code goes. Assumes nothing.
-use mathlib.Core.Path.{_≡_, sym, ap, _∙_}
+use mathlib.Core.Path.{_≡_, refl, sym, ap, _∙_}
 use mathlib.Core.Bool.{Bool, cond}
 use Prim.Native.Nat.{ℕ, zero, suc, _+_, _-_, _/_, _≤_, _<_}
 use native.Mathlib.Omega.{arith}
 use lib.Dec.{ltb}
+use borrow.Author.Tests.{le-ltb}
 use Rattle.bits.specs.Prefix.{matches}
 use Rattle.prefix.specs.Prefixes.{prefix}
 use Rattle.prefix.specs.declared.Prefix.{Prefix}
@@ -40,6 +41,17 @@ unfolding countBelow
 count-below-more w R n s zero l i count one whole h e f = absurd (omega arith)
 count-below-more w R n s (suc left) l i count one whole h e f =
     let z : suc left - 1 ≡ left = omega arith in rw z (omega (arith, e, f))
+
+-- from its length on a route counts for no node
+none-past : (w : ℕ) (R : ℕ → Route) (n s left l i : ℕ) → R i .len ≤ l → countBelow w R n s left l i ≡ 0
+unfolding countBelow countAt
+none-past w R n s zero l i h = refl
+none-past w R n s (suc left) l i h = rw (le-ltb l (R i .len) h) (omega (arith, none-past w R n s left (l + s) i (omega arith)))
+
+pub count-below-past : (w : ℕ) (R : ℕ → Route) (n s left l i count whole : ℕ) (r : Route) → r ≡ R i → r .len ≤ l
+    → count + countBelow w R n s left l i ≡ whole → count ≡ whole
+count-below-past w R n s left l i count whole r is h f =
+    omega (arith, f, none-past w R n s left l i (omega (arith, ap (λ (x : Route). x .len) is)))
 
 pub count-below-none : (w : ℕ) (R : ℕ → Route) (n s left l i count whole : ℕ) → left ≤ 0
     → count + countBelow w R n s left l i ≡ whole → count ≡ whole

@@ -27,15 +27,19 @@ fn count_at(list: &[u32], n: usize, depth: u32, i: usize) -> usize
     1
 }
 
-// The nodes below the root that route i counts for.
+// The nodes below the root that route i counts for; it counts for none from its length on.
 fn count_below(list: &[u32], n: usize, stride: u32, i: usize) -> usize
     requires { ⌜ (0 < stride) × (stride ≤ 4) × (i < n) ⌝ }
     ensures { λ r. ⌜ (r ≡ countBelow 32 (routeAt (now (list .entry))) n stride (32 / stride - 1) stride i) × (r ≤ 31) ⌝ }
 {
+    let len = route_at(list, i).len;
     let mut left = 32 / stride - 1;
     let mut depth = stride;
     let mut count = 0;
     while 0 < left {
+        if len <= depth {
+            return count;
+        }
         count += count_at(list, n, depth, i);
         depth += stride;
         left -= 1;

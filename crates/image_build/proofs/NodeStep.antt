@@ -11,6 +11,7 @@ use Rattle.image_rules.specs.Node.{nodeWords, offset, nodeStart, storeNodes}
 use Rattle.image_rules.specs.Breadth.{Slot, bitmap, children, leafPorts}
 use Rattle.image_stretch.specs.declared.Stretch.{Stretch}
 use Rattle.image_stretch.specs.declared.Filled.{Filled}
+use Rattle.image_stretch.specs.declared.Free.{Free}
 use Rattle.image_stretch.specs.Memory.{pending, free, filled, buildNode}
 use Rattle.image_stretch.specs.Needs.{Buildable}
 
@@ -24,19 +25,19 @@ module _ (S : Stretch → List (Slot Stretch)) where
       (sym e) (o, p, q)
 
   -- what building a node leaves
-  pub node-built : (a next base distance : ℕ) (nodes ports : List ℕ) (x y : Stretch) → x ≡ y
+  pub node-built : (a next base : ℕ) (nodes ports : List ℕ) (x y : Stretch) → x ≡ y
       → (f : Filled) → f ≡ filled (bitmap (S x)) (next + length (children S x)) (base + length (leafPorts S x))
-      → {nodes′ nodes″ ports′ : List ℕ} → nodes′ ≡ storeNodes nodes next (flat pending (children S x)) → distance ≡ offset (f .node .0 - next) next a
-      → nodes″ ≡ storeNodes nodes′ a (nodeWords (f .bitmap) distance base) → ports′ ≡ sets ports base (leafPorts S x)
-      → (free (f .node .0) (f .leaf .0) ≡ free (next + length (children S y)) (base + length (leafPorts S y)))
+      → {nodes′ nodes″ ports′ : List ℕ} → nodes′ ≡ storeNodes nodes next (flat pending (children S x)) → (r : Free) → r ≡ free (f .node .0) (f .leaf .0)
+      → nodes″ ≡ storeNodes nodes′ a (nodeWords (f .bitmap) (offset (f .node .0 - next) next a) base) → ports′ ≡ sets ports base (leafPorts S x)
+      → (r ≡ free (next + length (children S y)) (base + length (leafPorts S y)))
       × (nodes″ ≡ buildNode S nodes a next base y) × (ports′ ≡ sets ports base (leafPorts S y))
-  node-built a next base distance nodes ports x y e f g {nodes′} {nodes″} {ports′} p b c q =
-      subst (λ (z : Stretch). (free (f .node .0) (f .leaf .0) ≡ free (next + length (children S z)) (base + length (leafPorts S z)))
+  node-built a next base nodes ports x y e f g {nodes′} {nodes″} {ports′} p r b c q =
+      subst (λ (z : Stretch). (r ≡ free (next + length (children S z)) (base + length (leafPorts S z)))
       × (nodes″ ≡ buildNode S nodes a next base z) × (ports′ ≡ sets ports base (leafPorts S z))) e (
-        ap (λ (v : Filled). free (v .node .0) (v .leaf .0)) g,
-        c ∙ ap (λ (l : List ℕ). storeNodes l a (nodeWords (f .bitmap) distance base)) p
+        b ∙ ap (λ (v : Filled). free (v .node .0) (v .leaf .0)) g,
+        c ∙ ap (λ (l : List ℕ). storeNodes l a (nodeWords (f .bitmap) (offset (f .node .0 - next) next a) base)) p
             ∙ ap₂ (λ (m o : ℕ). storeNodes (storeNodes nodes next (flat pending (children S x))) a (nodeWords m o base))
-            (ap (λ (v : Filled). v .bitmap) g) (b ∙ ap (λ (n : ℕ). offset n next a) n),
+            (ap (λ (v : Filled). v .bitmap) g) (ap (λ (n : ℕ). offset n next a) n),
         q,
       )
     where

@@ -3,8 +3,6 @@ use mathlib.Core.Path.{_≡_, sym, ap, _∙_, subst}
 use mathlib.Core.Bool.{Bool, true, false, cond}
 use Prim.Native.Nat.{ℕ, _+_, _*_, _<_}
 use native.Mathlib.Nat.{add-zero}
-use Rattle.prefix.specs.Prefixes.{prefix}
-use Rattle.prefix.specs.declared.Prefix.{Prefix}
 use Rattle.routes.specs.declared.Route.{Route}
 use Rattle.image_rules.specs.Breadth.{Slot, leaf, nonLeaf}
 use Rattle.image_nodes.specs.declared.Node.{Node}
@@ -36,13 +34,11 @@ filled-ends o p st next e n =
     (λ j. record { bitmap = st .bitmap * 2 + 1; node = record { 0 = sym (add-zero (st .node .0)) j }; leaf = record { 0 = n j } })
     ∙ ap (λ (u : Slot Stretch). filledBy u st) (sym e)
 
--- slot j by its prefix, where the search resumed
-pub slot-found : (w : ℕ) (R : ℕ → Route) (s m : ℕ) (x y : Stretch) (address j short at : ℕ) (p : Prefix) → Fits x → Resumed w R s m x j short at → j < m
-    → address ≡ addressOf w R x → p ≡ prefix (slotAddress w address (x .depth + s) j) (x .depth + s)
-    → y ≡ slotStretchAt w R x short at (p .value) (p .len) → y ≡ stretchAt w R s x j
-slot-found w R s m x y address j short at p f r h a b c =
-    c ∙ ap (λ (q : Prefix). slotStretchAt w R x short at (q .value) (q .len)) b
-    ∙ ap (λ (k : ℕ). slotStretchAt w R x short at (slotAddress w k (x .depth + s) j) (x .depth + s)) a
+-- slot j, where the search resumed
+pub slot-found : (w : ℕ) (R : ℕ → Route) (s m : ℕ) (x y : Stretch) (address j short at : ℕ) → Fits x → Resumed w R s m x j short at → j < m
+    → address ≡ addressOf w R x → y ≡ slotStretchAt w R x short at (slotAddress w address (x .depth + s) j) (x .depth + s) → y ≡ stretchAt w R s x j
+slot-found w R s m x y address j short at f r h a c =
+    c ∙ ap (λ (k : ℕ). slotStretchAt w R x short at (slotAddress w k (x .depth + s) j) (x .depth + s)) a
     ∙ resumed-is w R s m x f j short at r h
 
 -- the slot's stretch fits a node's words, as its node's does

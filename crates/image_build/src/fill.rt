@@ -5,15 +5,13 @@ ghost use Prim.Native.Nat.{ℕ, _+_, _-_, _*_, _/_, _^_, _<_, _≤_};
 ghost use lib.ListN.{length, replicate};
 ghost use lib.Seq.{sets};
 ghost use Rattle.promise.specs.Over.{over};
-ghost use Rattle.bits.specs.Prefix.{span};
-ghost use Rattle.prefix.specs.Prefixes.{prefix};
 ghost use Rattle.routes.specs.Routes.{routeAt};
 ghost use Rattle.lists.specs.Flat.{flat};
 ghost use Rattle.image_rules.specs.Node.{nodeWords, offset, nodeStart, storeNodes};
 ghost use Rattle.image_rules.specs.Breadth.{slotChildren, slotPorts, bitmap, children, leafPorts, levels, treeWords, treePorts};
 ghost use Rattle.image_rules.specs.Image.{imageNodes, imagePorts, routesOf};
 ghost use Rattle.image_nodes.specs.Needs.{Lent};
-ghost use Rattle.image_stretch.specs.Stretches.{halfWord, shortAfter, slotIn, addressOf, slotAddress, stretchSlots, rootOf};
+ghost use Rattle.image_stretch.specs.Stretches.{halfWord, shortAfter, slotStretchAt, slotIn, addressOf, slotAddress, stretchSlots, rootOf};
 ghost use Rattle.image_stretch.specs.Memory.{pending, pendingAt, free, filled, filledBy, filledLeaves, owed, keptAfter, buildNode};
 ghost use Rattle.image_stretch.specs.Needs.{Fits, Clear, Buildable, Queue};
 ghost use Rattle.image_build.specs.Needs.{mostSlots, ImageRoom};
@@ -60,19 +58,6 @@ fn pending_at(nodes: &[u32], at: Node) -> Stretch
     }
 }
 
-// Stores a node's words.
-fn put_node(nodes: &mut [u32], at: Node, bits: u32, distance: Distance, base: Leaf)
-    requires { ⌜ Lent (now nodes) (at .0) × (distance .0 < 2 ^ 32) × (base .0 < 2 ^ 32) ⌝ }
-    ensures { λ _. ⌜ now (nodes .exit) ≡ storeNodes (now (nodes .entry)) (at .0) (nodeWords bits (distance .0) (base .0)) ⌝ }
-{
-    let words = NodeWords {
-        bitmap: bits,
-        offset: distance.0 as u32,
-        base: base.0 as u32,
-    };
-    store_node(nodes, at, words);
-}
-
 // From a node to its first child, where its children are the nodes from `first` up to `past`; 0 if there are none.
 fn offset_to(at: Node, first: Node, past: Node) -> Distance
     ensures { λ r. ⌜ (r .0 ≡ offset (past .0 - first .0) (first .0) (at .0)) × (r .0 ≤ first .0 - at .0) ⌝ }
@@ -81,6 +66,24 @@ fn offset_to(at: Node, first: Node, past: Node) -> Distance
         return Distance(0);
     }
     at.to(first)
+}
+
+// Stores a node's words, where its children and its leaves begin at the first that were not in use; those that are now not in use.
+fn put_node(nodes: &mut [u32], at: Node, st: Free, f: Filled) -> Free
+    requires { ⌜ Lent (now nodes) (at .0) × (st .node .0 ≤ 2 ^ 32) × (st .leaf .0 < 2 ^ 32) ⌝ }
+    ensures { λ r. ⌜ (r ≡ free (f .node .0) (f .leaf .0))
+        × (now (nodes .exit) ≡ storeNodes (now (nodes .entry)) (at .0) (nodeWords (f .bitmap) (offset (f .node .0 - st .node .0) (st .node .0) (at .0)) (st .leaf .0))) ⌝ }
+{
+    let node = f.node;
+    let leaf = f.leaf;
+    let distance = offset_to(at, st.node, node);
+    let words = NodeWords {
+        bitmap: f.bitmap,
+        offset: distance.0 as u32,
+        base: st.leaf.0 as u32,
+    };
+    store_node(nodes, at, words);
+    Free { node, leaf }
 }
 
 // The first address of a node: that of any route in it. Only the root may have none.
@@ -93,21 +96,22 @@ fn address_of(list: &[u32], x: Stretch) -> u32
     Prefix::new(route_at(list, x.lo).value, x.depth).first()
 }
 
-// How many addresses a slot has whose bits are so many.
-fn span_of(depth: u32) -> u64
-    requires { ⌜ depth ≤ 32 ⌝ }
-    ensures { λ r. ⌜ (r ≡ span 32 depth) × (r ≤ 2 ^ 32) ⌝ }
-{
-    1u64 << (32 - depth)
-}
-
-// The prefix of slot j of the node that begins at an address.
-fn slot_place(address: u32, depth: u32, j: u32) -> Prefix
+// The stretch of slot j of the node that begins at an address: the slot's bits are its prefix.
+fn find_slot(
+    list: &[u32],
+    x: Stretch,
+    short: usize,
+    route: usize,
+    address: u32,
+    depth: u32,
+    j: u32,
+) -> Stretch
     requires { ⌜ (depth ≤ 32) × (j ≤ mostSlots) ⌝ }
-    ensures { λ r. ⌜ r ≡ prefix (slotAddress 32 address depth j) depth ⌝ }
+    ensures { λ r. ⌜ r ≡ slotStretchAt 32 (routeAt (now (list .entry))) x short route (slotAddress 32 address depth j) depth ⌝ }
 {
-    let value = (address as u64 + j as u64 * span_of(depth)) % 4294967296;
-    Prefix::new(value as u32, depth)
+    let span = 1u64 << (32 - depth);
+    let value = (address as u64 + j as u64 * span) % 4294967296;
+    slot_stretch(list, x, short, route, Prefix::new(value as u32, depth))
 }
 
 // One port for the leaves from a place on, up to another.
@@ -159,22 +163,24 @@ fn fill_slot(
     }
 }
 
-// From where on a route of the node may match a later slot, after the slot with the stretch y. The routes in a slot match no later one,
-// and what the search passes on the way to a slot is shorter than the slots, and may match all that follow.
-fn short_after(short: usize, y: Stretch) -> usize
-    ensures { λ r. ⌜ r ≡ shortAfter short y ⌝ }
-{
-    if y.lo == short {
-        return y.hi;
-    }
-    short
+// Where the search for a slot's stretch resumes: from `short` on a route may match the slot, the routes from `route` on may lie in it,
+// and the slots before `clear` are leaves with the node's port.
+struct Search {
+    short: usize,
+    route: usize,
+    clear: u32,
 }
 
-// The slot in which a value lies, of a node that begins at an address; the number of slots if it lies past them.
-fn slot_of(value: u32, address: u32, depth: u32, slots: u32) -> u32
+// The slots before this one are leaves with the node's port, where no route before the next one is shorter than the slots: the next
+// route lies no earlier. It is the number of slots if the next route lies past them.
+fn clear_to(list: &[u32], x: Stretch, route: usize, address: u32, depth: u32, slots: u32) -> u32
     requires { ⌜ depth ≤ 32 ⌝ }
-    ensures { λ r. ⌜ (r ≤ slots) × (r * span 32 depth ≤ value - address) ⌝ }
+    ensures { λ r. ⌜ Clear 32 (routeAt (now (list .entry))) slots x route route address depth r ⌝ }
 {
+    if x.hi <= route {
+        return slots;
+    }
+    let value = route_at(list, route).value;
     if value < address {
         return 0;
     }
@@ -185,34 +191,34 @@ fn slot_of(value: u32, address: u32, depth: u32, slots: u32) -> u32
     slot as u32
 }
 
-// The slots before this one are leaves with the node's port: the next route lies no earlier, and none before it was shorter than the slots.
-fn clear_to(
+// The search after the slot with the stretch y. The routes in a slot match no later one, and what the search passes on the way to a
+// slot is shorter than the slots, and may match all that follow.
+fn search_after(
     list: &[u32],
     x: Stretch,
     short: usize,
-    route: usize,
+    y: Stretch,
     address: u32,
     depth: u32,
     slots: u32,
-) -> u32
+) -> Search
     requires { ⌜ depth ≤ 32 ⌝ }
-    ensures { λ r. ⌜ Clear 32 (routeAt (now (list .entry))) slots x short route address depth r ⌝ }
+    ensures { λ r. ⌜ (r .short ≡ shortAfter short y) × (r .route ≡ y .hi)
+        × Clear 32 (routeAt (now (list .entry))) slots x (r .short) (r .route) address depth (r .clear) ⌝ }
 {
-    if short != route {
-        return 0;
+    let route = y.hi;
+    if y.lo == short {
+        return Search {
+            short: route,
+            route,
+            clear: clear_to(list, x, route, address, depth, slots),
+        };
     }
-    if x.hi <= route {
-        return slots;
+    Search {
+        short,
+        route,
+        clear: 0,
     }
-    slot_of(route_at(list, route).value, address, depth, slots)
-}
-
-// A bitmap, and so many ones after it.
-fn with_leaves(bits: u32, count: u32) -> u32
-    requires { ⌜ (bits < 2 ^ mostSlots) × (count ≤ mostSlots) ⌝ }
-    ensures { λ r. ⌜ r ≡ (bits + 1) * 2 ^ count - 1 ⌝ }
-{
-    (((bits as u64 + 1) << count) - 1) as u32
 }
 
 // Some slots at once that are leaves; their ports are stored later.
@@ -222,8 +228,9 @@ fn skip_leaves(count: u32, st: Filled) -> Filled
 {
     let node = st.node;
     let leaf = st.leaf;
+    let bits = ((st.bitmap as u64 + 1) << count) - 1;
     Filled {
-        bitmap: with_leaves(st.bitmap, count),
+        bitmap: bits as u32,
         node,
         leaf: leaf.after(count as usize),
     }
@@ -264,9 +271,11 @@ fn fill_node(
     let node = at.node;
     let leaf = at.leaf;
     let mut j = 0;
-    let mut short = x.lo;
-    let mut route = x.lo;
-    let mut clear = clear_to(list, x, x.lo, x.lo, address, depth, slots);
+    let mut search = Search {
+        short: x.lo,
+        route: x.lo,
+        clear: clear_to(list, x, x.lo, address, depth, slots),
+    };
     let mut kept = leaf.0;
     let mut st = Filled {
         bitmap: 0,
@@ -274,19 +283,17 @@ fn fill_node(
         leaf,
     };
     while j < slots {
-        if j < clear {
-            st = skip_leaves(clear - j, st);
-            j = clear;
+        if j < search.clear {
+            st = skip_leaves(search.clear - j, st);
+            j = search.clear;
             continue;
         }
-        let y = slot_stretch(list, x, short, route, slot_place(address, depth, j));
+        let y = find_slot(list, x, search.short, search.route, address, depth, j);
         let before = st.leaf;
         st = fill_slot(list, y, nodes, ports, kept, x.best, st);
         let after = st.leaf;
         kept = kept_after(kept, before, after);
-        short = short_after(short, y);
-        route = y.hi;
-        clear = clear_to(list, x, short, route, address, depth, slots);
+        search = search_after(list, x, search.short, y, address, depth, slots);
         j += 1;
     }
     let past = st.leaf;
@@ -314,13 +321,8 @@ fn build_node(
         × (now (ports .exit) ≡ sets (now (ports .entry)) (st .leaf .0) (leafPorts (stretchSlots 32 (routeAt (now (list .entry))) stride slots) (pendingAt (now (nodes .entry)) (at .0)))) ⌝ }
 {
     let x = pending_at(nodes, at);
-    let first = st.node;
-    let base = st.leaf;
     let f = fill_node(list, x, stride, slots, nodes, ports, st);
-    let node = f.node;
-    let leaf = f.leaf;
-    put_node(nodes, at, f.bitmap, offset_to(at, first, node), base);
-    Free { node, leaf }
+    put_node(nodes, at, st, f)
 }
 
 // All nodes, one after the other; the root is there already.

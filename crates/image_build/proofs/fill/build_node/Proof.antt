@@ -16,20 +16,16 @@ pending-at-requires c κs =
 
 fill-node-requires : tie.Need-fill-node-requires
 fill-node-requires c κs =
-    let d = c .before .before .before .before .before .before .before .before .before in
+    let d = c .before .before .before .before .before .before .before in
     let a = d .args in
-    let x = c .before .before .before .before .pending-at in
+    let x = c .before .before .pending-at in
     let r = fill-needs (stretchSlots 32 (routeAt (now (a .list))) (a .stride) (a .slots)) 32 (routeAt (now (a .list))) (a .stride) (a .slots) (now (a .nodes)) (now (a .ports)) (a .st .node .0) (a .st .leaf .0)
     (x .result) (pendingAt (now (a .nodes)) (a .at .0)) (x .ensures) (d .pre .5) (d .pre .6) (d .pre .7) in
     (d .pre .0, r .0, omega (arith, d .pre .2), r .1, r .2)
 
-offset-to-requires : tie.Need-offset-to-requires
-offset-to-requires c κs = search needs
-
 put-node-requires : tie.Need-put-node-requires
 put-node-requires c κs =
-    let p = c .before .before .before .before .before .before .before .before .before .before .before .before .before .before .before .before .before .before .pre in
-    (record { positive = p .1; within = omega (arith, p .2, p .6) }, omega (arith, c .offset-to .ensures .1, p .1, p .2, p .3), p .4)
+    let p = c .before .before .before .before .before .before .before .before .before .before .before .before .before .pre in (record { positive = p .1; within = omega (arith, p .2, p .6) }, p .3, p .4)
 
 same-length : tie.Need-same-length
 same-length c = search needs
@@ -39,13 +35,12 @@ same-length-2 c = search needs
 
 returns : tie.Need-returns
 returns c =
-    let d = c .before .before .before .before .before .before .before .before .before .before .before .before .before .before .before .before .before .before .before .before .before in
-    let a = d .args in
-    let x = c .before .before .before .before .before .before .before .before .before .before .before .before .before .before .before .before .pending-at in
-    let f = c .before .before .before .before .before .before .before .before .before .before .before .fill-node in
-    let o = c .before .before .before .offset-to in
-    node-built (stretchSlots 32 (routeAt (now (a .list))) (a .stride) (a .slots)) (a .at .0) (a .st .node .0) (a .st .leaf .0) (o .result .0) (now (a .nodes)) (now (a .ports))
-    (x .result) (pendingAt (now (a .nodes)) (a .at .0)) (x .ensures) (f .result) (f .ensures .0) (f .ensures .1) (o .ensures .0) (c .before .before .put-node .ensures) (f .ensures .2)
+    let a = c .before .before .before .before .before .before .before .before .before .before .before .before .before .before .before .before .args in
+    let x = c .before .before .before .before .before .before .before .before .before .before .before .pending-at in
+    let f = c .before .before .before .before .before .before .before .before .fill-node in
+    let p = c .before .before .put-node in
+    node-built (stretchSlots 32 (routeAt (now (a .list))) (a .stride) (a .slots)) (a .at .0) (a .st .node .0) (a .st .leaf .0) (now (a .nodes)) (now (a .ports))
+    (x .result) (pendingAt (now (a .nodes)) (a .at .0)) (x .ensures) (f .result) (f .ensures .0) (f .ensures .1) (p .result) (p .ensures .0) (p .ensures .1) (f .ensures .2)
 
 pub build-node-spec : {M : Type 1} → statement M
 build-node-spec =
@@ -53,7 +48,6 @@ build-node-spec =
     (tie.spec
     pending-at-requires
     fill-node-requires
-    offset-to-requires
     put-node-requires
     same-length
     same-length-2

@@ -20,14 +20,14 @@ use Rattle.image_build.proofs.fill.fill_node.Statement.{statement}
 use Rattle.image_build.proofs.fill.fill_node.Tie as tie
 
 abbrev Inv-loop : tie.InvT-loop
-Inv-loop list x stride slots nodes₀ ports₀ address depth j₀ short₀ route₀ clear₀ kept₀ st₀ nodes ports j short route clear kept st =
+Inv-loop list x stride slots nodes₀ ports₀ address depth j₀ search₀ kept₀ st₀ nodes ports j search kept st =
     SlotsDone (stretchSlot 32 (routeAt list) stride x) slots nodes₀ ports₀ (st₀ .node .0) (st₀ .leaf .0) nodes (owed ports kept (st .leaf .0) (x .best)) j st
-    × Resumed 32 (routeAt list) stride slots x j short route
-    × Clear 32 (routeAt list) slots x short route (addressOf 32 (routeAt list) x) (x .depth + stride) clear
+    × Resumed 32 (routeAt list) stride slots x j (search .short) (search .route)
+    × Clear 32 (routeAt list) slots x (search .short) (search .route) (addressOf 32 (routeAt list) x) (x .depth + stride) (search .clear)
     × (kept ≤ st .leaf .0)
 
 abbrev μ-loop : tie.MeasureT-loop
-μ-loop list x stride slots nodes₀ ports₀ address depth j₀ short₀ route₀ clear₀ kept₀ st₀ nodes ports j short route clear kept st = slots - j
+μ-loop list x stride slots nodes₀ ports₀ address depth j₀ search₀ kept₀ st₀ nodes ports j search kept st = slots - j
 
 address-of-requires : tie.Need-address-of-requires Inv-loop μ-loop
 address-of-requires c κs = search needs
@@ -55,54 +55,50 @@ sub-skip-leaves c = search needs
 
 skip-leaves-requires : tie.Need-skip-leaves-requires Inv-loop μ-loop
 skip-leaves-requires c κs =
-    let d = c .before .before .before .before .before .before .before .before .before .before .before in
+    let d = c .before .before .before .before .before .before .before .before .before .before .before .before .before in
     let a = d .args in
-    let l = c .before .before .loop in
-    let h = c .before .loop-test .taken in
-    let r = slot-loop-leaves-room (stretchSlot 32 (routeAt (now (a .list))) (a .stride) (a .x)) (a .slots) (now (a .nodes)) (now (a .ports)) (a .at .node .0) (a .at .leaf .0) (a .x .best) (l .clear - l .j) (l .nodes) (owed (l .ports) (l .kept) (l .st .leaf .0) (a .x .best)) (l .j) (l .st) (l .inv .0) (omega (arith, l .inv .2 .few, h))
-    (λ i p q. clear-slot 32 (routeAt (now (a .list))) (a .stride) (a .slots) (a .x) (d .pre .1 .fits) (l .j) (l .short) (l .route) (l .inv .1) (l .clear) (l .inv .2) i p (omega arith)) (d .pre .4) in (
+    let l = c .before .before .before .before .loop in
+    let h = c .before .before .before .loop-test .taken in
+    let r = slot-loop-leaves-room (stretchSlot 32 (routeAt (now (a .list))) (a .stride) (a .x)) (a .slots) (now (a .nodes)) (now (a .ports)) (a .at .node .0) (a .at .leaf .0) (a .x .best) (l .search .clear - l .j) (l .nodes) (owed (l .ports) (l .kept) (l .st .leaf .0) (a .x .best)) (l .j) (l .st) (l .inv .0) (omega (arith, l .inv .2 .few, h))
+    (λ i p q. clear-slot 32 (routeAt (now (a .list))) (a .stride) (a .slots) (a .x) (d .pre .1 .fits) (l .j) (l .search .short) (l .search .route) (l .inv .1) (l .search .clear) (l .inv .2) i p (omega arith)) (d .pre .4) in (
       omega (arith, l .inv .2 .few, d .pre .0),
       omega (arith, l .inv .0 .small, pow-mono {i = l .j} {j = 16} (omega (arith, h, d .pre .0))),
       omega (arith, r, l .inv .0 .portsLent),
     )
 
 loop-less : tie.Need-loop-less Inv-loop μ-loop
-loop-less c = omega (arith, c .before .if1 .taken, c .before .before .loop-test .taken, c .before .before .before .loop .inv .2 .few)
+loop-less c = omega (arith, c .before .before .if1 .taken, c .before .before .before .before .loop-test .taken, c .before .before .before .before .before .loop .inv .2 .few)
 
 loop-again : tie.Need-loop-again Inv-loop μ-loop
 loop-again c =
-    let d = c .before .before .before .before .before .before .before .before .before .before .before .before in
+    let d = c .before .before .before .before .before .before .before .before .before .before .before .before .before .before in
     let a = d .args in
-    let l = c .before .before .before .loop in
-    let h = c .before .if1 .taken in
+    let l = c .before .before .before .before .before .loop in
+    let h = c .before .before .if1 .taken in
     let f = c .skip-leaves in
-    let e : f .result .leaf .0 ≡ l .st .leaf .0 + (l .clear - l .j) = ap (λ (u : Filled). u .leaf .0) (f .ensures) in (
-      slot-loop-leaves (stretchSlot 32 (routeAt (now (a .list))) (a .stride) (a .x)) (a .slots) (now (a .nodes)) (now (a .ports)) (a .at .node .0) (a .at .leaf .0) (a .x .best) (l .clear - l .j) (l .nodes) (owed (l .ports) (l .kept) (l .st .leaf .0) (a .x .best)) (l .j) (l .st) (l .inv .0) (omega (arith, l .inv .2 .few, h))
-          (λ i p q. clear-slot 32 (routeAt (now (a .list))) (a .stride) (a .slots) (a .x) (d .pre .1 .fits) (l .j) (l .short) (l .route) (l .inv .1) (l .clear) (l .inv .2) i p (omega arith))
-          (l .clear) (omega (arith, h)) (owed (l .ports) (l .kept) (f .result .leaf .0) (a .x .best))
-          (owed-more (l .ports) (l .kept) (l .st .leaf .0) (l .clear - l .j) (f .result .leaf .0) (a .x .best) (l .inv .3) e) (f .result) (f .ensures),
-      resumed-later 32 (routeAt (now (a .list))) (a .stride) (a .slots) (a .x) (d .pre .1 .fits) (l .j) (l .short) (l .route) (l .inv .1) (l .clear) (omega (arith, h)),
+    let e : f .result .leaf .0 ≡ l .st .leaf .0 + (l .search .clear - l .j) = ap (λ (u : Filled). u .leaf .0) (f .ensures) in (
+      slot-loop-leaves (stretchSlot 32 (routeAt (now (a .list))) (a .stride) (a .x)) (a .slots) (now (a .nodes)) (now (a .ports)) (a .at .node .0) (a .at .leaf .0) (a .x .best) (l .search .clear - l .j) (l .nodes) (owed (l .ports) (l .kept) (l .st .leaf .0) (a .x .best)) (l .j) (l .st) (l .inv .0) (omega (arith, l .inv .2 .few, h))
+          (λ i p q. clear-slot 32 (routeAt (now (a .list))) (a .stride) (a .slots) (a .x) (d .pre .1 .fits) (l .j) (l .search .short) (l .search .route) (l .inv .1) (l .search .clear) (l .inv .2) i p (omega arith))
+          (l .search .clear) (omega (arith, h)) (owed (l .ports) (l .kept) (f .result .leaf .0) (a .x .best))
+          (owed-more (l .ports) (l .kept) (l .st .leaf .0) (l .search .clear - l .j) (f .result .leaf .0) (a .x .best) (l .inv .3) e) (f .result) (f .ensures),
+      resumed-later 32 (routeAt (now (a .list))) (a .stride) (a .slots) (a .x) (d .pre .1 .fits) (l .j) (l .search .short) (l .search .route) (l .inv .1) (l .search .clear) (omega (arith, h)),
       l .inv .2,
       omega (arith, e, l .inv .3),
     )
 
-slot-place-requires : tie.Need-slot-place-requires Inv-loop μ-loop
-slot-place-requires c κs = search needs
-
-slot-stretch-requires : tie.Need-slot-stretch-requires Inv-loop μ-loop
-slot-stretch-requires c κs = search needs
+find-slot-requires : tie.Need-find-slot-requires Inv-loop μ-loop
+find-slot-requires c κs = search needs
 
 fill-slot-requires : tie.Need-fill-slot-requires Inv-loop μ-loop
 fill-slot-requires c κs =
     let d = c .before .before .before .before .before .before .before .before .before .before .before .before .before .before .before .before in
     let a = d .args in
     let l = c .before .before .before .before .before .before .before .loop in
-    let y = c .before .before .before .slot-stretch in
-    let p = c .before .before .before .before .slot-place in
+    let y = c .before .before .before .find-slot in
     let g = c .before .before .before .before .before .before .before .before .before .before .before .before .address-of in
     let h = c .before .before .before .before .before .before .loop-test .taken in
-    let e = slot-found 32 (routeAt (now (a .list))) (a .stride) (a .slots) (a .x) (y .result) (g .result) (l .j) (l .short) (l .route) (p .result)
-    (d .pre .1 .fits) (l .inv .1) h (g .ensures) (p .ensures) (y .ensures) in
+    let e = slot-found 32 (routeAt (now (a .list))) (a .stride) (a .slots) (a .x) (y .result) (g .result) (l .j) (l .search .short) (l .search .route)
+    (d .pre .1 .fits) (l .inv .1) h (g .ensures) (y .ensures) in
     let r = slot-loop-room (stretchSlot 32 (routeAt (now (a .list))) (a .stride) (a .x)) (a .slots) (now (a .nodes)) (now (a .ports)) (a .at .node .0) (a .at .leaf .0)
     (l .nodes) (owed (l .ports) (l .kept) (l .st .leaf .0) (a .x .best)) (l .j) (l .st) (l .inv .0) h (d .pre .0) (slotIn (routeAt (now (a .list))) (y .result)) (ap (slotIn (routeAt (now (a .list)))) e) (d .pre .3) (d .pre .4) in
     let f = slot-needs 32 (routeAt (now (a .list))) (a .stride) (a .x) (y .result) (l .j) e (d .pre .1 .fits) in
@@ -111,38 +107,35 @@ fill-slot-requires c κs =
 kept-after-requires : tie.Need-kept-after-requires Inv-loop μ-loop
 kept-after-requires c κs = search needs
 
-short-after-requires : tie.Need-short-after-requires Inv-loop μ-loop
-short-after-requires c κs = search needs
-
-clear-to-requires-2 : tie.Need-clear-to-requires-2 Inv-loop μ-loop
-clear-to-requires-2 c κs = omega (arith, c .before .before .before .before .before .before .before .before .before .before .before .before .before .before .before .before .before .before .before .before .before .before .before .before .pre .1 .deep)
+search-after-requires : tie.Need-search-after-requires Inv-loop μ-loop
+search-after-requires c κs = omega (arith, c .before .before .before .before .before .before .before .before .before .before .before .before .before .before .before .before .before .before .before .before .before .before .before .pre .1 .deep)
 
 add-j : tie.Need-add-j Inv-loop μ-loop
-add-j c = omega (arith, c .before .before .before .before .before .before .before .before .before .before .before .before .before .before .before .loop-test .taken, c .before .before .before .before .before .before .before .before .before .before .before .before .before .before .before .before .before .before .before .before .before .before .before .before .before .pre .0)
+add-j c = omega (arith, c .before .before .before .before .before .before .before .before .before .before .before .before .before .before .loop-test .taken, c .before .before .before .before .before .before .before .before .before .before .before .before .before .before .before .before .before .before .before .before .before .before .before .before .pre .0)
 
 loop-less-2 : tie.Need-loop-less-2 Inv-loop μ-loop
-loop-less-2 c = omega (arith, c .before .before .before .before .before .before .before .before .before .before .before .before .before .before .before .loop-test .taken)
+loop-less-2 c = omega (arith, c .before .before .before .before .before .before .before .before .before .before .before .before .before .before .loop-test .taken)
 
 loop-again-2 : tie.Need-loop-again-2 Inv-loop μ-loop
 loop-again-2 c =
-    let d = c .before .before .before .before .before .before .before .before .before .before .before .before .before .before .before .before .before .before .before .before .before .before .before .before .before in
+    let d = c .before .before .before .before .before .before .before .before .before .before .before .before .before .before .before .before .before .before .before .before .before .before .before .before in
     let a = d .args in
-    let l = c .before .before .before .before .before .before .before .before .before .before .before .before .before .before .before .before .loop in
-    let y = c .before .before .before .before .before .before .before .before .before .before .before .before .slot-stretch in
-    let p = c .before .before .before .before .before .before .before .before .before .before .before .before .before .slot-place in
-    let g = c .before .before .before .before .before .before .before .before .before .before .before .before .before .before .before .before .before .before .before .before .before .address-of in
-    let h = c .before .before .before .before .before .before .before .before .before .before .before .before .before .before .before .loop-test .taken in
-    let e = slot-found 32 (routeAt (now (a .list))) (a .stride) (a .slots) (a .x) (y .result) (g .result) (l .j) (l .short) (l .route) (p .result)
-    (d .pre .1 .fits) (l .inv .1) h (g .ensures) (p .ensures) (y .ensures) in
-    let f = c .before .before .before .before .before .before .before .before .fill-slot in
-    let k = c .before .before .kept-after in
-    let n = c .before .short-after in (
+    let l = c .before .before .before .before .before .before .before .before .before .before .before .before .before .before .before .loop in
+    let y = c .before .before .before .before .before .before .before .before .before .before .before .find-slot in
+    let g = c .before .before .before .before .before .before .before .before .before .before .before .before .before .before .before .before .before .before .before .before .address-of in
+    let h = c .before .before .before .before .before .before .before .before .before .before .before .before .before .before .loop-test .taken in
+    let e = slot-found 32 (routeAt (now (a .list))) (a .stride) (a .slots) (a .x) (y .result) (g .result) (l .j) (l .search .short) (l .search .route)
+    (d .pre .1 .fits) (l .inv .1) h (g .ensures) (y .ensures) in
+    let f = c .before .before .before .before .before .before .before .fill-slot in
+    let k = c .before .kept-after in
+    let n = c .search-after in (
       slot-loop-more (stretchSlot 32 (routeAt (now (a .list))) (a .stride) (a .x)) (a .slots) (now (a .nodes)) (now (a .ports)) (a .at .node .0) (a .at .leaf .0)
           (l .nodes) (owed (l .ports) (l .kept) (l .st .leaf .0) (a .x .best)) (l .j) (l .st) (l .inv .0) h (slotIn (routeAt (now (a .list))) (y .result)) (ap (slotIn (routeAt (now (a .list)))) e) (f .ensures .0) (f .ensures .1)
           (f .ensures .2 (k .result) (k .ensures)),
-      resumed-more 32 (routeAt (now (a .list))) (a .stride) (a .slots) (a .x) (d .pre .1 .fits) (l .j) (l .short) (l .route) (l .inv .1) (d .pre .1 .parted) h
-          (y .result) e (n .result) (n .ensures),
-      subst (λ (k : ℕ). Clear 32 (routeAt (now (a .list))) (a .slots) (a .x) (n .result) (y .result .hi) k (a .x .depth + a .stride) (c .clear-to2 .result)) (g .ensures) (c .clear-to2 .ensures),
+      subst (λ (i : ℕ). Resumed 32 (routeAt (now (a .list))) (a .stride) (a .slots) (a .x) (l .j + 1) (n .result .short) i) (sym (n .ensures .1))
+          (resumed-more 32 (routeAt (now (a .list))) (a .stride) (a .slots) (a .x) (d .pre .1 .fits) (l .j) (l .search .short) (l .search .route) (l .inv .1) (d .pre .1 .parted) h
+          (y .result) e (n .result .short) (n .ensures .0)),
+      subst (λ (k : ℕ). Clear 32 (routeAt (now (a .list))) (a .slots) (a .x) (n .result .short) (n .result .route) k (a .x .depth + a .stride) (n .result .clear)) (g .ensures) (n .ensures .2),
       kept-le (l .kept) (l .st .leaf .0) (f .result .leaf .0) (k .result) (l .inv .3) (k .ensures),
     )
 
@@ -168,7 +161,7 @@ returns c =
     let a = d .args in
     let l = c .before .before .before .before .before .before .before .loop in
     let o = slot-loop-all (stretchSlot 32 (routeAt (now (a .list))) (a .stride) (a .x)) (a .slots) (now (a .nodes)) (now (a .ports)) (a .at .node .0) (a .at .leaf .0) (l .nodes) (owed (l .ports) (l .kept) (l .st .leaf .0) (a .x .best)) (l .j) (l .st) (l .inv .0) (c .before .before .before .before .before .before .loop-test .left) in
-    (o .0, o .1, c .before .before .store-ports .ensures ∙ o .2)
+    (o .0, o .1, _∙_ {b = owed (l .ports) (l .kept) (l .st .leaf .0) (a .x .best)} (c .before .before .store-ports .ensures) (o .2))
 
 pub fill-node-spec : {M : Type 1} → statement M
 fill-node-spec =
@@ -184,12 +177,10 @@ fill-node-spec =
     skip-leaves-requires
     loop-less
     loop-again
-    slot-place-requires
-    slot-stretch-requires
+    find-slot-requires
     fill-slot-requires
     kept-after-requires
-    short-after-requires
-    clear-to-requires-2
+    search-after-requires
     add-j
     loop-less-2
     loop-again-2

@@ -9,6 +9,7 @@ pub mod Decided
 pub mod Follows
 pub mod Histories
 pub mod Demands
+pub mod Defined
 pub mod Images
 pub mod Accepted
 pub mod Impostors

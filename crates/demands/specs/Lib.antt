@@ -5,5 +5,6 @@ pub mod Boundary
 pub mod Exports
 pub mod History
 pub mod Demands
+pub mod Defined
 pub mod Impostors
 pub mod Examples

@@ -1,0 +1,42 @@
+-- Defines the boundary that the definitions make: each call has the one outcome that they say. RULES, "Promises". It ends and meets the
+-- demands, so that what is said of such boundaries is said of something. Assumes nothing.
+use mathlib.Core.Path.{_≡_}
+use Rattle.refusals.specs.Reply.{placed, counted, looked, replied}
+use Rattle.routes.specs.Check.{listCheck}
+use Rattle.routes.specs.Scan.{listScan}
+use Rattle.file_rules.specs.Calls.{readFile, writeFile}
+use Rattle.table_rows.specs.Words.{capacity, rowAt, fiveWords}
+use Rattle.table_rules.specs.Lookup.{lookupIn}
+use Rattle.table_rules.specs.Save.{saveInto}
+use Rattle.table_lookup.specs.Good.{tableCheck}
+use Rattle.table_update.specs.Calls.{announceInto, withdrawInto, buildInto}
+use Rattle.image_rules.specs.Lookup.{lookupWords}
+use Rattle.image_build.specs.Build.{buildImage}
+use Rattle.runs_rules.specs.Listing.{listRuns}
+use Rattle.table_runs.specs.TableRuns.{tableRuns}
+use Rattle.maftehon.specs.Reply.{repliedImage}
+use Rattle.demands.specs.Boundary.{Boundary, Ends}
+use Rattle.demands.specs.Demands.{Demands}
+
+abbrev pub defined : Boundary
+defined = record {
+  file-read = λ file list o. o ≡ replied (readFile 32 file list);
+  file-write = λ list file o. o ≡ replied (writeFile 32 list file);
+  list-check = λ list x. x ≡ placed (listCheck 32 list);
+  list-scan = λ list a x. x ≡ counted (listScan 32 list a);
+  list-runs = λ list runs o. o ≡ replied (listRuns 32 list runs);
+  table-check = λ rows n x. x ≡ placed (tableCheck 32 (capacity rows) (rowAt rows) n);
+  table-lookup = λ rows n a x. x ≡ looked (lookupIn 32 (capacity rows) (rowAt rows) n a);
+  table-announce = λ rows n q o. o ≡ replied (announceInto fiveWords 32 rows n q);
+  table-withdraw = λ rows n value len o. o ≡ replied (withdrawInto fiveWords 32 rows n value len);
+  table-build = λ list rows o. o ≡ replied (buildInto fiveWords 32 list rows);
+  table-save = λ rows n list o. o ≡ replied (saveInto 32 (capacity rows) (rowAt rows) n list);
+  table-runs = λ rows n runs o. o ≡ replied (tableRuns 32 (capacity rows) (rowAt rows) n runs);
+  image-build = λ s list nodes ports x. x ≡ repliedImage (buildImage 32 s list nodes ports);
+  image-lookup = λ s nodes ports a x. x ≡ looked (lookupWords 32 s nodes ports a);
+}
+
+-- the impostors are stopped by something that can be met
+pub record DefinedMeets : Type 0 where
+  pub ends : Ends defined
+  pub meets : Demands defined

@@ -54,12 +54,11 @@ impl Prefix {
         (self.value as u64) % span_of(self.len) == 0
     }
 
-    // THE MATCH TEST: whether the first (length) bits of the address and the value agree.
+    // THE MATCH TEST: whether the address lies between the first and the last address of the prefix.
     pub fn matches(self, address: u32) -> bool
         ensures { λ r. ⌜ r ≡ matches 32 (self .value) (self .len) address ⌝ }
     {
-        let k = gap(self.len);
-        (address as u64) >> k == (self.value as u64) >> k
+        (self.first() <= address) & (address <= self.last())
     }
 
     // The first address.

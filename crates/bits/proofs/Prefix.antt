@@ -8,7 +8,7 @@ use native.Mathlib.Nat.{div-add-mod', mod-lt, div-eq-of-lt-le, div-eq-of-lt, mul
 use lib.Dec.{eqb, leb}
 use lib.Pow.{pow-pos, pow-add, shr-shr, shr-lt}
 use borrow.Author.Tests.{eq-eqb, ne-eqb, eqb-true, eqb-false, le-leb, lt-leb, leb-true, leb-false}
-use Rattle.bits.specs.Prefix.{span, head, Valid, matches, first, last, within, middle}
+use Rattle.bits.specs.Prefix.{span, head, clear, Valid, matches, first, last, within, middle}
 use Rattle.bits.specs.Theorems.{MatchesWithin, EndsOfValid, WholeMatches, NestOrApart, Halved, Halves}
 use Rattle.lists.proofs.Tests.{way, both, test-eq, test-no, leb-same}
 
@@ -75,6 +75,25 @@ matches-within w v l a = test-eq (matches w v l a) (within w v l a) there back
 
 pub first-valid : (w v l : ℕ) → Valid w v l → first w v l ≡ v
 first-valid w v l ok = omega (arith, head-rest w l v, ok .zeros)
+
+-- a value has no bits past the length exactly where it is the first address
+pub first-clear : (w v l : ℕ) → eqb (first w v l) v ≡ clear w v l
+first-clear w v l =
+    test-eq (eqb (first w v l) v) (clear w v l)
+    (λ t. eq-eqb (v % span w l) 0 (omega (arith, head-rest w l v, eqb-true (first w v l) v t)))
+    (λ t. eq-eqb (first w v l) v (omega (arith, head-rest w l v, eqb-true (v % span w l) 0 t)))
+
+-- two addresses agree in the first l bits exactly where the prefixes of that length around them begin at one address
+pub first-same : (w v l a : ℕ) → eqb (first w a l) (first w v l) ≡ matches w v l a
+first-same w v l a = test-eq (eqb (first w a l) (first w v l)) (matches w v l a) there back
+  where
+    there : eqb (first w a l) (first w v l) ≡ true → matches w v l a ≡ true
+    there t =
+        let e : first w a l ≡ first w v l = eqb-true (first w a l) (first w v l) t in
+        within→matches w v l a (omega (arith, head-rest w l a, e)) (omega (arith, head-rest w l a, e, mod-lt a (span-pos w l)))
+
+    back : matches w v l a ≡ true → eqb (first w a l) (first w v l) ≡ true
+    back t = eq-eqb (first w a l) (first w v l) (ap (λ (h : ℕ). h * span w l) (eqb-true (head w l a) (head w l v) t))
 
 -- a prefix whose value is an address ends within the space, whatever its length
 pub end-le : (w v l : ℕ) → v < 2 ^ w → first w v l + span w l ≤ 2 ^ w

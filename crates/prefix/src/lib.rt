@@ -1,9 +1,9 @@
 // Prefixes of 32-bit addresses, by value: the whole space, ends, halves, order, and the one match test.
 // Every method answers for every value and length; RULES, "Readings", says what where there is no such prefix.
 ghost use mathlib.Core.Path.{_≡_};
-ghost use Prim.Native.Nat.{_-_, _%_, _^_, _≤_};
+ghost use Prim.Native.Nat.{_-_, _%_, _^_, _<_, _≤_};
 ghost use Rattle.bits.specs.Bits.{bitBefore};
-ghost use Rattle.bits.specs.Prefix.{clear, matches, first, last, precedes, samePrefix, aheadOf};
+ghost use Rattle.bits.specs.Prefix.{span, clear, matches, first, last, precedes, samePrefix, aheadOf};
 ghost use Rattle.prefix.specs.Prefixes.{Spanned, prefix, leftHalf, rightHalf};
 
 pub struct Prefix {
@@ -36,6 +36,13 @@ fn span_of(len: u32) -> u64
     1u64 << gap(len)
 }
 
+// How many of them follow the first.
+fn after_first(len: u32) -> u64
+    ensures { λ r. ⌜ (r ≡ span 32 len - 1) × (r < 2 ^ 32) ⌝ }
+{
+    span_of(len) - 1
+}
+
 impl Prefix {
     // The prefix of length 0 is the whole address space.
     pub const WHOLE: Prefix = Prefix { value: 0, len: 0 };
@@ -51,7 +58,7 @@ impl Prefix {
     pub fn is_clear(self) -> bool
         ensures { λ r. ⌜ r ≡ clear 32 (self .value) (self .len) ⌝ }
     {
-        (self.value as u64) % span_of(self.len) == 0
+        self.first() == self.value
     }
 
     // THE MATCH TEST: whether the address lies between the first and the last address of the prefix.
@@ -73,7 +80,7 @@ impl Prefix {
     pub fn last(self) -> u32
         ensures { λ r. ⌜ r ≡ last 32 (self .value) (self .len) ⌝ }
     {
-        (self.first() as u64 + (span_of(self.len) - 1)) as u32
+        (self.first() as u64 + after_first(self.len)) as u32
     }
 
     // The left half; of a single address, which has none, that address.

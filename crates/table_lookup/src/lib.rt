@@ -1,12 +1,14 @@
 // The table: lookup and the check of good order, on any lent rows.
 ghost use mathlib.Core.Path.{_≡_};
+ghost use mathlib.Core.Bool.{cond};
 ghost use Prim.Native.Nat.{_<_};
 ghost use Rattle.table_rules.specs.Rows.{child};
 ghost use Rattle.table_rows.specs.Words.{capacity, rowAt};
 ghost use Rattle.table_rules.specs.Check.{isGood};
-ghost use Rattle.table_rules.specs.Lookup.{wrongRow, rowMatches, endsAt, betterOf, lookupIn};
+ghost use Rattle.table_rules.specs.Lookup.{wrongRow, rowMatches, lookupIn};
 ghost use Rattle.refusals.specs.Refusals.{found, lost};
 ghost use Rattle.bits.specs.Bits.{bitBefore};
+ghost use Rattle.bits.specs.Prefix.{matches};
 ghost use Rattle.table_lookup.specs.Good.{tableCheck};
 use good::seen_at;
 use prefix::Prefix;
@@ -21,18 +23,23 @@ use table_rules::Row;
 
 mod good;
 
+// Whether a value begins with the first (depth) bits of the address: the prefixes of that length around both begin at one address.
+fn on_path(value: u32, address: u32, depth: u32) -> bool
+    ensures { λ r. ⌜ r ≡ matches 32 address depth value ⌝ }
+{
+    Prefix::new(value, depth).first() == Prefix::new(address, depth).first()
+}
+
 // Whether a row read at a depth is wrong for the address: a child number n or more, a length above 32 or below the depth, bits
 // past the length, a port outside 1..4094, or a prefix that differs from the address in the first (depth) bits.
 pub(crate) fn is_wrong(x: Row, n: u32, address: u32, depth: u32) -> bool
     ensures { λ r. ⌜ r ≡ wrongRow 32 x n address depth ⌝ }
 {
-    (n <= x.left)
-        | (n <= x.right)
-        | (32 < x.len)
-        | (x.len < depth)
-        | !prefix_of(x).is_clear()
-        | !routes::is_port(x.port)
-        | !Prefix::new(address, depth).matches(x.value)
+    // Returned at once, so that what follows has a length of at most 32: that makes its shifts cheap.
+    if (n <= x.left) | (n <= x.right) | (32 < x.len) | (x.len < depth) {
+        return true;
+    }
+    !prefix_of(x).is_clear() | !routes::is_port(x.port) | !on_path(x.value, address, depth)
 }
 
 // Whether the row's prefix matches the address.
@@ -42,22 +49,11 @@ fn row_matches(x: Row, address: u32) -> bool
     prefix_of(x).matches(address)
 }
 
-// Whether the row ends the search: a matching priority node.
-fn ends(x: Row, address: u32, depth: u32) -> bool
-    ensures { λ r. ⌜ r ≡ endsAt 32 x address depth ⌝ }
+// The best port, once the row is read and its match test asked.
+fn better(x: Row, matched: bool, best: u32) -> u32
+    ensures { λ r. ⌜ r ≡ cond matched (x .port) best ⌝ }
 {
-    row_matches(x, address) & (depth < x.len)
-}
-
-// The best port, once the row is read.
-fn better(x: Row, address: u32, best: u32) -> u32
-    ensures { λ r. ⌜ r ≡ betterOf 32 x address best ⌝ }
-{
-    if row_matches(x, address) {
-        x.port
-    } else {
-        best
-    }
+    if matched { x.port } else { best }
 }
 
 // The child that the address's bit names, where k bits come after it.
@@ -82,30 +78,29 @@ pub fn lookup(rows: &[u32], n: u32, address: u32) -> Found
     if n == 0 {
         return Found::found(0, 0);
     }
-    let mut left: u32 = 32;
+    let mut depth: u32 = 0;
     let mut row: u32 = 0;
     let mut best: u32 = 0;
-    let mut reads: u32 = 0;
     loop {
         let x = whole_row(rows, row);
-        let depth = 32 - left;
-        reads += 1;
+        let reads = depth + 1;
         if is_wrong(x, n, address, depth) {
             return Found::lost(NOT_IN_ORDER, reads);
         }
-        if ends(x, address, depth) {
+        let matched = row_matches(x, address);
+        if matched & (depth < x.len) {
             return Found::found(x.port, reads);
         }
         // An ordinary match does not end the search: a longer route may lie below it.
-        best = better(x, address, best);
-        if left == 0 {
+        best = better(x, matched, best);
+        if depth == 32 {
             return Found::found(best, reads);
         }
-        left -= 1;
-        row = child_on(x, address, left);
+        row = child_on(x, address, 32 - reads);
         if row == 0 {
             return Found::found(best, reads);
         }
+        depth = reads;
     }
 }
 

@@ -1,8 +1,11 @@
-use Rattle.bits.specs.Prefix.{clear, matches}
+use Rattle.bits.specs.Prefix.{clear}
 use Rattle.routes.proofs.Faults.{prefix-test}
 use borrow.Author.Needs.{needs}
 use Rattle.table_lookup.proofs.is_wrong.Statement.{statement}
 use Rattle.table_lookup.proofs.is_wrong.Tie as tie
+
+returns : tie.Need-returns
+returns c = rw (c .if1 .taken)
 
 prefix-of-requires : tie.Need-prefix-of-requires
 prefix-of-requires c κs = search needs
@@ -13,26 +16,23 @@ is-clear-requires c κs = search needs
 is-port-requires : tie.Need-is-port-requires
 is-port-requires c κs = search needs
 
-new-requires : tie.Need-new-requires
-new-requires c κs = search needs
+on-path-requires : tie.Need-on-path-requires
+on-path-requires c κs = search needs
 
-matches-requires : tie.Need-matches-requires
-matches-requires c κs = search needs
-
-returns : tie.Need-returns
-returns c =
-    let a = c .before .before .before .before .before .before .before .before .before .args in
-    let zeros = prefix-test (clear 32) _ _ _ _ (c .before .before .before .before .prefix-of .ensures) (c .before .before .before .is-clear .ensures) in
-    let path = prefix-test (λ v l. matches 32 v l (a .x .value)) _ _ _ _ (c .before .new .ensures) (c .matches .ensures) in
-    rw (zeros, path, c .before .before .is-port .ensures)
+returns-2 : tie.Need-returns-2
+returns-2 c =
+    let cleared = c .before .before in
+    let whole = cleared .before .before in
+    let zeros = prefix-test (clear 32) _ _ _ _ (cleared .before .prefix-of .ensures) (cleared .is-clear .ensures) in
+    rw (whole .if1 .left, zeros, c .before .is-port .ensures, c .on-path .ensures)
 
 pub is-wrong-spec : {M : Type 1} → statement M
 is-wrong-spec =
     tie.close
     (tie.spec
+    returns
     prefix-of-requires
     is-clear-requires
     is-port-requires
-    new-requires
-    matches-requires
-    returns)
+    on-path-requires
+    returns-2)

@@ -10,11 +10,8 @@ first-requires c κs = search needs
 cast-result : tie.Need-cast-result
 cast-result c = search needs
 
-span-of-requires : tie.Need-span-of-requires
-span-of-requires c κs = search needs
-
-sub-result : tie.Need-sub-result
-sub-result c = search needs
+after-first-requires : tie.Need-after-first-requires
+after-first-requires c κs = search needs
 
 add-result : tie.Need-add-result
 add-result c = search needs
@@ -22,7 +19,7 @@ add-result c = search needs
 cast-result-2 : tie.Need-cast-result-2
 cast-result-2 c =
     let p = c .before .before .args .self in
-    omega (arith, end-le 32 (p .value) (p .len) (search needs), c .span-of .ensures .is, c .before .first .ensures)
+    omega (arith, end-le 32 (p .value) (p .len) (search needs), c .after-first .ensures .0, c .before .first .ensures)
 
 returns : tie.Need-returns
 returns c = search needs
@@ -33,8 +30,7 @@ last-spec =
     (tie.spec
     first-requires
     cast-result
-    span-of-requires
-    sub-result
+    after-first-requires
     add-result
     cast-result-2
     returns)

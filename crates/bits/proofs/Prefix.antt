@@ -1,5 +1,5 @@
 -- Laws of prefixes, over the width: ends, matching as a range, nesting, halves. Assumes nothing.
-use mathlib.Core.Path.{_≡_, refl, sym, ap, ap₂, _∙_, subst}
+use mathlib.Core.Path.{_≡_, refl, sym, ap, ap₂, _∙_}
 use mathlib.Core.Logic.{_⊎_, inl, inr, ⊎-elim}
 use mathlib.Core.Bool.{Bool, true, false, _&&_, _||_, or-true}
 use Prim.Native.Nat.{ℕ, zero, suc, _+_, _-_, _*_, _/_, _%_, _^_, _<_, _≤_}
@@ -7,9 +7,9 @@ use native.Mathlib.Omega.{arith}
 use native.Mathlib.Nat.{div-add-mod', mod-lt, div-eq-of-lt-le, div-eq-of-lt, mul-mod-left, mul-le-mul-right, suc-mul, mul-comm, mul-assoc}
 use lib.Dec.{eqb, leb}
 use lib.Pow.{pow-pos, pow-add, shr-shr, shr-lt}
-use borrow.Author.Tests.{eq-eqb, ne-eqb, eqb-true, eqb-false, le-leb, lt-leb, leb-true, leb-false}
+use borrow.Author.Tests.{eq-eqb, ne-eqb, eqb-true, eqb-false, le-leb, leb-true, leb-false}
 use Rattle.bits.specs.Prefix.{span, head, clear, Valid, matches, first, last, within, middle}
-use Rattle.bits.specs.Theorems.{MatchesWithin, EndsOfValid, WholeMatches, NestOrApart, Halved, Halves}
+use Rattle.bits.specs.Theorems.{MatchesWithin, EndsOfValid, WholeMatches, NestOrApart, Halves}
 use Rattle.lists.proofs.Tests.{way, both, test-eq, test-no, leb-same}
 
 -- spans and heads

@@ -1,7 +1,7 @@
 // Prefixes of 32-bit addresses, by value: the whole space, ends, halves, order, and the one match test.
 // Every method answers for every value and length; RULES, "Readings", says what where there is no such prefix.
 ghost use mathlib.Core.Path.{_≡_};
-ghost use Prim.Native.Nat.{_-_, _%_, _^_, _<_, _≤_};
+ghost use Prim.Native.Nat.{_-_, _^_, _<_, _≤_};
 ghost use Rattle.bits.specs.Bits.{bitBefore};
 ghost use Rattle.bits.specs.Prefix.{span, clear, matches, first, last, precedes, samePrefix, aheadOf};
 ghost use Rattle.prefix.specs.Prefixes.{Spanned, prefix, leftHalf, rightHalf};
@@ -36,7 +36,7 @@ fn span_of(len: u32) -> u64
     1u64 << gap(len)
 }
 
-// How many of them follow the first.
+// How many addresses follow the first. By itself, so that the compiler sees the mask of `first` in it and makes that once.
 fn after_first(len: u32) -> u64
     ensures { λ r. ⌜ (r ≡ span 32 len - 1) × (r < 2 ^ 32) ⌝ }
 {

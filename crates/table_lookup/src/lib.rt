@@ -1,12 +1,10 @@
 // The table: lookup and the check of good order, on any lent rows.
 ghost use mathlib.Core.Path.{_≡_};
 ghost use mathlib.Core.Bool.{cond};
-ghost use Prim.Native.Nat.{_<_};
 ghost use Rattle.table_rules.specs.Rows.{child};
 ghost use Rattle.table_rows.specs.Words.{capacity, rowAt};
 ghost use Rattle.table_rules.specs.Check.{isGood};
 ghost use Rattle.table_rules.specs.Lookup.{wrongRow, rowMatches, lookupIn};
-ghost use Rattle.refusals.specs.Refusals.{found, lost};
 ghost use Rattle.bits.specs.Bits.{bitBefore};
 ghost use Rattle.bits.specs.Prefix.{matches};
 ghost use Rattle.table_lookup.specs.Good.{tableCheck};

@@ -6,7 +6,6 @@ use Rattle.table_rows.specs.Words.{capacity, rowAt}
 use Rattle.table_lookup.proofs.Search.{Searching, lookup-past, lookup-none, lookup-starts, to-wrong, to-ends, to-last, to-stop, to-next}
 use Rattle.table_lookup.proofs.lookup.Statement.{statement}
 use Rattle.table_lookup.proofs.lookup.Tie as tie
-use Rattle.table_lookup.proofs.lookup.Reads as reads
 
 abbrev Inv-loop : tie.InvT-loop
 Inv-loop rows n address depth₀ row₀ best₀ depth row best = Searching 32 (capacity rows) (rowAt rows) n address depth row best

@@ -5,6 +5,7 @@ pub mod Listed
 pub mod OfLists
 pub mod OfTables
 pub mod OfImages
+pub mod EachCall
 pub mod Decided
 pub mod Follows
 pub mod Histories

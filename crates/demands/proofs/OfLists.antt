@@ -8,7 +8,7 @@ use lib.Dec.{eqb, leb}
 use lib.ListN.{length}
 use borrow.Author.Tests.{ne-eqb}
 use Rattle.promise.specs.Over.{Outcome, outcome, over}
-use Rattle.refusals.specs.Refusals.{noRoom, tooManyRuns, refused, accepted}
+use Rattle.refusals.specs.Refusals.{noRoom, refused, accepted}
 use Rattle.routes.specs.Routes.{routeAt, routeCount, routeWords, listOfRoutes}
 use Rattle.routes.specs.Check.{listCheck}
 use Rattle.routes.specs.Scan.{scanOf, listScan}
@@ -17,7 +17,7 @@ use Rattle.file_rules.specs.File.{fileRoute, fileOf}
 use Rattle.file_rules.specs.Calls.{checkedThen, readFile, writeFile}
 use Rattle.lists.proofs.InOrder.{length-in-order}
 use Rattle.runs_rules.specs.Runs.{Run, runWords}
-use Rattle.runs_rules.specs.Listing.{listed, mostRuns, writeRuns, listRuns}
+use Rattle.runs_rules.specs.Listing.{listed, writeRuns, listRuns}
 use Rattle.demands.specs.Lamp.{shows, done}
 use Rattle.demands.specs.Checks.{listChecks, roomFor, readChecks, writeChecks, runsChecks, listRunsChecks}
 use Rattle.demands.proofs.Tells.{tells-as, tells-le}
@@ -66,18 +66,15 @@ scan-refuses w list a =
     (λ m p some. rw (ne-eqb m 0 (λ e. omega arith)) (record { exact = (refl, refl); kept = λ _. refl })) w list done
     (record { exact = (refl, refl); kept = λ wrong. absurd (wrong refl) })
 
--- "then 13, then 9"
+-- "then 9", where the room is counted in whole runs
 pub runs-on : (rs : List Run) (lent : List ℕ) → On (writing 0 lent) (runsChecks rs lent) (writeRuns rs lent)
 unfolding writeRuns
 runs-on rs lent =
     let whole = leb (length rs) (length lent / 3) in
-    on-test (writing 0 lent) (leb (length rs) mostRuns) (mostRuns < length rs) (tells-le (length rs) mostRuns) tooManyRuns 0 _
-    (λ c. cond c (cond whole (outcome (accepted (length rs)) (over (runWords rs) lent)) (outcome (refused noRoom 0) lent)) (outcome (refused tooManyRuns 0) lent))
-    (on-test (writing 0 lent) whole (length lent < length rs * 3)
+    on-test (writing 0 lent) whole (length lent < length rs * 3)
     (tells-as whole (length lent / 3 < length rs) (length lent < length rs * 3) (λ h. omega arith) (λ h. omega arith) (tells-le (length rs) (length lent / 3)))
     noRoom 0 done (λ c. cond c (outcome (accepted (length rs)) (over (runWords rs) lent)) (outcome (refused noRoom 0) lent))
-    (on-accepted 0 lent (length rs) (over (runWords rs) lent)) (on-refused lent noRoom 0))
-    (on-refused lent tooManyRuns 0)
+    (on-accepted 0 lent (length rs) (over (runWords rs) lent)) (on-refused lent noRoom 0)
 
 pub list-runs-refuses : (w : ℕ) (list runs : List ℕ) → Refuses (listRunsChecks w list runs) 0 runs (listRuns w list runs)
 unfolding listRuns

@@ -9,7 +9,7 @@ use Rattle.bits.specs.Bits.{prefixBits, bitBefore}
 use Rattle.bits.specs.Prefix.{clear, precedes}
 use Rattle.bits.specs.Bitmap.{slotBit}
 use Rattle.trie.specs.Routes.{Routes, Route as BitRoute}
-use Rattle.refusals.specs.Refusals.{shortFile, wrongVersion, wrongSize, longPrefix, spareBits, wrongPort, notAbove, tooManyRoutes, noRoom, notHeld, notInOrder, wrongStride, tooManyRuns}
+use Rattle.refusals.specs.Refusals.{shortFile, wrongVersion, wrongSize, longPrefix, spareBits, wrongPort, notAbove, tooManyRoutes, noRoom, notHeld, notInOrder, wrongStride}
 use Rattle.routes.specs.Bounds.{mostRoutes, lastPort}
 use Rattle.routes.specs.Routes.{routeAt, routeCount}
 use Rattle.routes.specs.declared.Route.{Route}
@@ -23,7 +23,7 @@ use Rattle.image_rules.specs.Lookup.{addressSlot, leafOf, childAt}
 use Rattle.image_rules.specs.Image.{imageNodes, imagePorts}
 use Rattle.image_build.specs.Build as build
 use Rattle.runs_rules.specs.Runs.{Run}
-use Rattle.runs_rules.specs.Listing.{listed, mostRuns}
+use Rattle.runs_rules.specs.Listing.{listed}
 use Rattle.table_runs.specs.TableRuns.{tableRoutes}
 use Rattle.demands.specs.Lamp.{Verdict, shows, done, whether, refuse}
 
@@ -151,9 +151,9 @@ nodeChecks s nodes ports a (suc k) i =
 abbrev pub imageLookupChecks : ℕ → ℕ → List ℕ → List ℕ → ℕ → Verdict
 imageLookupChecks w s nodes ports a = strideCheck s (nodeChecks s nodes ports a (w / s) 1)
 
--- "then 13, then 9"
+-- "then 9"
 abbrev pub runsChecks : List Run → List ℕ → Verdict
-runsChecks rs lent = refuse tooManyRuns 0 (mostRuns < length rs) (roomFor (length rs * 3) lent)
+runsChecks rs lent = roomFor (length rs * 3) lent
 
 -- "Listing: list checks or 11, then"
 abbrev pub listRunsChecks : ℕ → List ℕ → List ℕ → Verdict

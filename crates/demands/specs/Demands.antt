@@ -85,21 +85,25 @@ pub record Demand1 (B : Boundary) : Type 0 where
       (s : ℕ) (nodes ports : List ℕ) (a : ℕ) (x : Reply) → B .image-lookup s nodes ports a x
       → ReadsAndNumber 32 s nodes ports a (readCount x) (x .number)
 
+-- the checks of every call are such
+pub record EachCall (Such : Verdict → Type 0) : Type 0 where
+  pub file-read : (file list : List ℕ) → Such (readChecks 32 file list)
+  pub file-write : (list file : List ℕ) → Such (writeChecks 32 list file)
+  pub list-check : (list : List ℕ) → Such (listChecks 32 list done)
+  pub list-runs : (list runs : List ℕ) → Such (listRunsChecks 32 list runs)
+  pub table-check : (rows : List ℕ) (n : ℕ) → Such (orderChecks 32 rows n done)
+  pub table-lookup : (rows : List ℕ) (n a : ℕ) → Such (lookupChecks 32 rows n a)
+  pub table-announce : (rows : List ℕ) (n : ℕ) (q : Route) → Such (announceChecks 32 rows n q)
+  pub table-withdraw : (rows : List ℕ) (n value len : ℕ) → Such (withdrawChecks 32 rows n value len)
+  pub table-build : (list rows : List ℕ) → Such (buildChecks 32 list rows)
+  pub table-save : (rows : List ℕ) (n : ℕ) (list : List ℕ) → Such (saveChecks 32 rows n list)
+  pub table-runs : (rows : List ℕ) (n : ℕ) (runs : List ℕ) → Such (tableRunsChecks 32 rows n runs)
+  pub image-build : (s : ℕ) (list nodes ports : List ℕ) → Such (imageChecks 32 s list nodes ports)
+  pub image-lookup : (s : ℕ) (nodes ports : List ℕ) (a : ℕ) → Such (imageLookupChecks 32 s nodes ports a)
+
 -- "exactly in the listed case": the checks of a call leave no choice, so that no other number or place would do
-pub record Demand1Decides : Type 0 where
-  pub file-read : (file list : List ℕ) → Decides (readChecks 32 file list)
-  pub file-write : (list file : List ℕ) → Decides (writeChecks 32 list file)
-  pub list-check : (list : List ℕ) → Decides (listChecks 32 list done)
-  pub list-runs : (list runs : List ℕ) → Decides (listRunsChecks 32 list runs)
-  pub table-check : (rows : List ℕ) (n : ℕ) → Decides (orderChecks 32 rows n done)
-  pub table-lookup : (rows : List ℕ) (n a : ℕ) → Decides (lookupChecks 32 rows n a)
-  pub table-announce : (rows : List ℕ) (n : ℕ) (q : Route) → Decides (announceChecks 32 rows n q)
-  pub table-withdraw : (rows : List ℕ) (n value len : ℕ) → Decides (withdrawChecks 32 rows n value len)
-  pub table-build : (list rows : List ℕ) → Decides (buildChecks 32 list rows)
-  pub table-save : (rows : List ℕ) (n : ℕ) (list : List ℕ) → Decides (saveChecks 32 rows n list)
-  pub table-runs : (rows : List ℕ) (n : ℕ) (runs : List ℕ) → Decides (tableRunsChecks 32 rows n runs)
-  pub image-build : (s : ℕ) (list nodes ports : List ℕ) → Decides (imageChecks 32 s list nodes ports)
-  pub image-lookup : (s : ℕ) (nodes ports : List ℕ) (a : ℕ) → Decides (imageLookupChecks 32 s nodes ports a)
+abbrev pub Demand1Decides : Type 0
+Demand1Decides = EachCall Decides
 
 -- DEMAND 2. "Both tries, built from a valid list, give for each of the 2^32 addresses the port that a plain scan gives (longest match,
 -- RFC 4632; 0 if none)." A build that returned 0 had a valid list, by demand 1; the lookup is handed what the build left. Stronger:

@@ -32,3 +32,7 @@ pub record Lamp (checks : Verdict) (number place : ℕ) (Kept : Type 0) : Type 0
 -- "exactly": checks that allow one number and one place
 abbrev pub Decides : Verdict → Type 0
 Decides checks = (m p m′ p′ : ℕ) → checks m p → checks m′ p′ → (m ≡ m′) × (p ≡ p′)
+
+-- checks that never show a number
+abbrev pub Without : ℕ → Verdict → Type 0
+Without number checks = (m p : ℕ) → checks m p → m ≡ number → ⊥

@@ -5,6 +5,7 @@ pub mod Boundary
 pub mod Exports
 pub mod History
 pub mod Demands
+pub mod Unused
 pub mod Defined
 pub mod Impostors
 pub mod Examples

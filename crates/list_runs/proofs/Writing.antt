@@ -15,7 +15,7 @@ use Rattle.promise.proofs.Over.{over-three}
 use Rattle.lists.proofs.Tests.{way, neither}
 use Rattle.lists.proofs.Flat.{flat-append}
 use Rattle.runs_rules.specs.Runs.{wordsOfRun, Run, run, runsFrom, runs, runSize, runWords}
-use Rattle.runs_rules.specs.Listing.{mostRuns}
+use Rattle.runs_rules.specs.Theorems.{mostRuns}
 use Rattle.runs_rules.proofs.Runs.{runs-from-to, runs-from-other, runs-from-all}
 use Rattle.runs_rules.proofs.Listing.{length-run-words}
 use Rattle.list_runs.specs.Sweep.{openRun, stays, turned, turnedLeft, goneOn, goneOnLeft}

@@ -10,7 +10,8 @@ use Rattle.routes.specs.Routes.{ValidList}
 use Rattle.routes.specs.Scan.{lastMatch}
 use Rattle.routes.specs.declared.Route.{Route}
 use Rattle.runs_rules.specs.Runs.{Run, runSize, runWords}
-use Rattle.runs_rules.specs.Listing.{listed, mostRuns}
+use Rattle.runs_rules.specs.Listing.{listed}
+use Rattle.runs_rules.specs.Theorems.{mostRuns}
 use Rattle.list_runs.specs.Sweep.{look, turned, turnedLeft, goneOn, goneOnLeft}
 use Rattle.list_runs.specs.declared.OpenRun.{OpenRun}
 

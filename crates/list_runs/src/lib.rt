@@ -7,16 +7,12 @@ ghost use Rattle.list_runs.specs.Sweep.{startOf};
 ghost use Rattle.list_runs.specs.Needs.{RoomFor, Ended, Turned, GoneOn, Sweepable, Swept};
 use refusals::Answer;
 use refusals::NO_ROOM;
-use refusals::TOO_MANY_RUNS;
 use routes::ROUTE_SIZE;
 use routes::check_list;
 use routes::route_at;
 
 // The words of a run in a listing: first address, last address, port.
 pub const RUN_SIZE: usize = 3;
-
-// Refusal 13 is for more runs than these.
-const MOST_RUNS: usize = 8193;
 
 // The last of all addresses.
 const LAST_ADDRESS: u32 = 4294967295;
@@ -142,9 +138,6 @@ fn write_counted(list: &[u32], n: usize, runs: &mut [u32]) -> Answer
     ensures { λ r. ⌜ outcome r (now (runs .exit)) ≡ writeRuns (listed 32 (routeAt (now (list .entry))) n) (now (runs .entry)) ⌝ }
 {
     let count = sweep(list, n, runs, false);
-    if MOST_RUNS < count {
-        return Answer::refused(TOO_MANY_RUNS, 0);
-    }
     if runs.len() / RUN_SIZE < count {
         return Answer::refused(NO_ROOM, 0);
     }
@@ -152,8 +145,8 @@ fn write_counted(list: &[u32], n: usize, runs: &mut [u32]) -> Answer
     Answer::accepted(count as u32)
 }
 
-// The runs of the first n routes of a list that is known to be valid. Refuses 13, more than 8,193 runs, and 9, no room for
-// them; else their words, and their number. n routes have at most 2n+1 runs: with room for those, nothing is refused.
+// The runs of the first n routes of a list that is known to be valid. Refuses 9, no room for them; else their
+// words, and their number. n routes have at most 2n+1 runs: with room for those, nothing is refused.
 pub fn write_runs(list: &[u32], n: usize, runs: &mut [u32]) -> Answer
     requires { ⌜ ValidList 32 (routeAt (now list)) n ⌝ }
     ensures { λ r. ⌜ outcome r (now (runs .exit)) ≡ writeRuns (listed 32 (routeAt (now (list .entry))) n) (now (runs .entry)) ⌝ }
@@ -167,7 +160,7 @@ pub fn write_runs(list: &[u32], n: usize, runs: &mut [u32]) -> Answer
 }
 
 // The run listing of a list: three words a run, first address, last address, port; and their number. Refuses as the list
-// check does, then 13, more than 8,193 runs, then 9, no room for them, both at place 0.
+// check does, then 9, no room for the runs, at place 0.
 pub fn list_runs(list: &[u32], runs: &mut [u32]) -> Answer
     ensures { λ r. ⌜ outcome r (now (runs .exit)) ≡ listRuns 32 (now (list .entry)) (now (runs .entry)) ⌝ }
 {

@@ -42,8 +42,7 @@ notInOrder = 11
 abbrev pub wrongStride : ℕ
 wrongStride = 12
 
-abbrev pub tooManyRuns : ℕ
-tooManyRuns = 13
+-- 13 is not given, and no other refusal takes the number: it was for more than 8,193 runs, which 4,096 routes cannot have
 
 -- "A refusal returns its number and a place, all other results 0"
 abbrev pub refused : ℕ → ℕ → Answer

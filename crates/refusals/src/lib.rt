@@ -29,7 +29,7 @@ pub const NOT_IN_ORDER: u32 = 11;
 
 pub const WRONG_STRIDE: u32 = 12;
 
-pub const TOO_MANY_RUNS: u32 = 13;
+// 13 is not given, and no other refusal takes the number: it was for more than 8,193 runs, which 4,096 routes cannot have.
 
 // What a call answers: the refusal's number and place, both 0 where it is done, and its one other result.
 pub struct Answer {

@@ -11,11 +11,10 @@ use borrow.Author.Tests.{eq-eqb, ne-eqb, le-leb, lt-leb}
 use Rattle.routes.specs.Routes.{routeAt, routeCount}
 use Rattle.lists.specs.Numbered.{listOf}
 use Rattle.routes.specs.Check.{listCheck}
-use Rattle.routes.proofs.Check.{accepted-sized}
 use Rattle.routes.specs.Scan.{scanOf}
 use Rattle.runs_rules.specs.Runs.{Run, Lists, runs, runsFrom, runSize, runWords}
 use Rattle.runs_rules.specs.Boundaries.{boundaries, runsBy}
-use Rattle.runs_rules.specs.Listing.{listed, mostRuns, writeRuns, listRuns}
+use Rattle.runs_rules.specs.Listing.{listed, writeRuns, listRuns}
 use Rattle.runs_rules.specs.Theorems.{ListedLists, ListedFew, NeverTooMany, ListedNone, ListedBoundaries, ListRunsDone, ListRunsShort, ListRunsRefused}
 use Rattle.runs_rules.proofs.Runs.{listing-unique, listing-exists}
 use Rattle.runs_rules.proofs.Boundaries.{runs-by-is, runs-by-le, length-boundaries, rising-boundaries, scan-changes}
@@ -49,22 +48,13 @@ pub list-runs-accepted : (w : ℕ) (list lent : List ℕ) → listCheck w list .
 unfolding listRuns
 list-runs-accepted w list lent fine = rw (eq-eqb (listCheck w list .number) 0 fine) refl
 
--- any listing of an accepted list is what is listed of it, and not too long
+-- any listing of an accepted list is what is listed of it
 module _ (w : ℕ) (list : List ℕ) (rs : List Run) (fine : listCheck w list .number ≡ 0)
     (lists : Lists (scanOf w (routeAt list) (routeCount list)) (2 ^ w) 0 rs) where
   is-listed : listed w (routeAt list) (routeCount list) ≡ rs
   is-listed =
       listing-unique (scanOf w (routeAt list) (routeCount list)) (2 ^ w) (listed w (routeAt list) (routeCount list)) rs
       (listed-lists w (routeAt list) (routeCount list)) lists
-
-  few : length rs ≤ mostRuns
-  few =
-      omega (
-        arith,
-        ap length is-listed,
-        listed-few w (routeAt list) (routeCount list),
-        accepted-sized w list fine .few,
-      )
 
   list-runs-fine : (lent : List ℕ) → listRuns w list lent ≡ writeRuns rs lent
   list-runs-fine lent = list-runs-accepted w list lent fine ∙ ap (λ (qs : List Run). writeRuns qs lent) is-listed
@@ -73,13 +63,13 @@ pub list-runs-done : ListRunsDone
 unfolding writeRuns
 list-runs-done w list lent rs fine lists room =
     list-runs-fine w list rs fine lists lent
-    ∙ simp (le-leb (length rs) mostRuns (few w list rs fine lists), le-leb (length rs) (length lent / runSize) (omega arith))
+    ∙ simp (le-leb (length rs) (length lent / runSize) (omega arith))
 
 pub list-runs-short : ListRunsShort
 unfolding writeRuns
 list-runs-short w list lent rs fine lists short =
     list-runs-fine w list rs fine lists lent
-    ∙ simp (le-leb (length rs) mostRuns (few w list rs fine lists), lt-leb (length rs) (length lent / runSize) (omega arith))
+    ∙ simp (lt-leb (length rs) (length lent / runSize) (omega arith))
 
 pub list-runs-refused : ListRunsRefused
 unfolding listRuns

@@ -6,7 +6,7 @@ use Prim.Native.Nat.{ℕ, _/_, _^_}
 use lib.Dec.{eqb, leb}
 use lib.ListN.{length}
 use Rattle.promise.specs.Over.{Outcome, outcome, over}
-use Rattle.refusals.specs.Refusals.{noRoom, tooManyRuns, refused, accepted}
+use Rattle.refusals.specs.Refusals.{noRoom, refused, accepted}
 use Rattle.routes.specs.Routes.{routeAt, routeCount}
 use Rattle.routes.specs.Check.{listCheck}
 use Rattle.routes.specs.Scan.{scanOf}
@@ -18,16 +18,10 @@ use Rattle.runs_rules.specs.Runs.{Run, runs, runSize, runWords}
 abbrev pub listed : ℕ → (ℕ → Route) → ℕ → List Run
 listed w R n = runs (scanOf w R n) (2 ^ w)
 
--- 13: "there are more than 8,193 runs"
-abbrev pub mostRuns : ℕ
-mostRuns = 8193
-
--- "then 13, then 9"; the words of the runs over the front of the lent memory, and how many runs there are
+-- "then 9"; the words of the runs over the front of the lent memory, and how many runs there are
 unfoldable pub writeRuns : List Run → List ℕ → Outcome Answer
 writeRuns rs lent =
-    cond (leb (length rs) mostRuns)
-    (cond (leb (length rs) (length lent / runSize)) (outcome (accepted (length rs)) (over (runWords rs) lent)) (outcome (refused noRoom 0) lent))
-    (outcome (refused tooManyRuns 0) lent)
+    cond (leb (length rs) (length lent / runSize)) (outcome (accepted (length rs)) (over (runWords rs) lent)) (outcome (refused noRoom 0) lent)
 
 -- "The runs of a valid list": the list checks come first
 unfoldable pub listRuns : ℕ → List ℕ → List ℕ → Outcome Answer

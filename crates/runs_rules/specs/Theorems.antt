@@ -11,7 +11,7 @@ use Rattle.routes.specs.Scan.{scanOf}
 use Rattle.routes.specs.declared.Route.{Route}
 use Rattle.runs_rules.specs.Runs.{Run, run, Lists, runs, runSize, runWords}
 use Rattle.runs_rules.specs.Boundaries.{boundaryRuns}
-use Rattle.runs_rules.specs.Listing.{listed, mostRuns, listRuns}
+use Rattle.runs_rules.specs.Listing.{listed, listRuns}
 
 -- no port of an address has two listings
 abbrev pub ListingUnique : Type 0
@@ -29,7 +29,11 @@ ListedLists = (w : ℕ) (R : ℕ → Route) (n : ℕ) → Lists (scanOf w R n) (
 abbrev pub ListedFew : Type 0
 ListedFew = (w : ℕ) (R : ℕ → Route) (n : ℕ) → length (listed w R n) ≤ 2 * n + 1
 
--- so that no valid list is refused 13
+-- as many runs as 4,096 routes can have
+abbrev pub mostRuns : ℕ
+mostRuns = 8193
+
+-- so a valid list has no more than these, and no refusal is needed for more: there is no 13
 abbrev pub NeverTooMany : Type 0
 NeverTooMany = (w : ℕ) (R : ℕ → Route) (n : ℕ) → ValidList w R n → length (listed w R n) ≤ mostRuns
 

@@ -11,6 +11,7 @@ use borrow.Author.Tests.{le-leb}
 use Rattle.promise.specs.Over.{Outcome, outcome, over}
 use Rattle.bits.specs.Bits.{bits}
 use Rattle.lists.proofs.Tests.{way}
+use Rattle.trie.specs.Routes.{Routes}
 use Rattle.trie.specs.Scan.{scan}
 use Rattle.refusals.specs.Refusals.{notInOrder, refused, accepted}
 use Rattle.routes.specs.Bounds.{mostRoutes}
@@ -20,7 +21,7 @@ use Rattle.refusals.specs.declared.Answer.{Answer}
 use Rattle.table_rows.specs.Words.{rowCount}
 use Rattle.table_rows.specs.Words.{capacity as capacityOf}
 use Rattle.table_rules.specs.Rows.{Mem}
-use Rattle.table_rules.specs.Holds.{GoodOrder}
+use Rattle.table_rules.specs.Holds.{GoodFor, GoodOrder}
 use Rattle.table_rules.specs.Check.{isGood}
 use Rattle.table_rules.specs.Save.{saved, saveInto}
 use Rattle.table_rules.specs.Theorems.{SavedWell}
@@ -30,13 +31,13 @@ use Rattle.table_rules.proofs.SavedLookup.{lookup-is-saved-scan}
 use Rattle.table_rules.proofs.Lookup.{lookup-is-scan}
 use Rattle.refusals.specs.declared.found.Found.{Found}
 use Rattle.routes.proofs.Words.{get-words-at}
-use Rattle.runs_rules.specs.Runs.{Run, runSize}
-use Rattle.runs_rules.specs.Listing.{listed, mostRuns, writeRuns}
+use Rattle.runs_rules.specs.Runs.{Run, Lists, runSize}
+use Rattle.runs_rules.specs.Listing.{listed, writeRuns}
 use Rattle.runs_rules.proofs.Runs.{listing-unique}
 use Rattle.runs_rules.proofs.Listing.{listed-lists, never-too-many}
 use Rattle.runs_rules.proofs.Same.{listed-same, valid-same, lists-same}
 use Rattle.table_runs.specs.TableRuns.{tableRoutes, tableRuns}
-use Rattle.table_runs.specs.Theorems.{TableRunsDone, TableRunsRefused}
+use Rattle.table_runs.specs.Theorems.{TableFew, TableRunsDone, TableRunsRefused}
 
 -- "The capacity is the number of whole rows lent, but at most 4,096."
 pub capacity-le : (words : List ℕ) → capacityOf words ≤ mostRoutes
@@ -116,27 +117,32 @@ module _ (w capacity : ℕ) (M : Mem) (n : ℕ) (small : capacity ≤ mostRoutes
         (ap (λ (k : ℕ). listed w (routeAt left) k) count ∙ sym (listed-same w (tableRoutes w M n) (routeAt left) n routes-left))
         ∙ sym (rw (is-good z) refl)
 
+-- any listing of the routes that a table in good order holds is what is listed of it
+module _ (w capacity : ℕ) (M : Mem) (n : ℕ) (S : Routes) (rs : List Run) (good : GoodFor w capacity M n S) (small : capacity ≤ mostRoutes)
+    (lists : Lists (λ a. scan S (bits w a)) (2 ^ w) 0 rs) where
+  fine : isGood w capacity M n ≡ true
+  fine = check-is-good w capacity M n .1 (S, good)
+
+  -- both are the port that the lookup answers
+  scan-is : (x : ℕ) → x < 2 ^ w → scan S (bits w x) ≡ scanOf w (tableRoutes w M n) n x
+  scan-is x h =
+      sym (ap (λ (f : Found). f .port) (lookup-is-scan w capacity M n x S good h))
+      ∙ lookup-is-saved-scan w capacity M n x fine (omega (arith, good .few)) h .port
+
+  is-listed : rs ≡ listed w (tableRoutes w M n) n
+  is-listed =
+      listing-unique (scanOf w (tableRoutes w M n) n) (2 ^ w) rs (listed w (tableRoutes w M n) n)
+      (lists-same (λ x. scan S (bits w x)) (scanOf w (tableRoutes w M n) n) (2 ^ w) 0 rs scan-is lists)
+      (listed-lists w (tableRoutes w M n) n)
+
+pub table-few : TableFew
+table-few w capacity M n S rs good small lists =
+    rw (is-listed w capacity M n S rs good small lists)
+    (never-too-many w (tableRoutes w M n) n (saved-is w capacity M n S good (omega (arith, good .few)) .list))
+
 pub table-runs-done : TableRunsDone
 unfolding tableRuns writeRuns
 table-runs-done w capacity M n S lent rs good small lists room =
-    rw (check-is-good w capacity M n .1 (S, good))
-    (ap (λ (qs : List Run). writeRuns qs lent) (sym is-listed)
-    ∙ rw (le-leb (length rs) mostRuns few-runs, le-leb (length rs) (length lent / runSize) (omega (arith, room))) refl)
-  where
-    w-saved : SavedWell w (saved w M n) n S
-    w-saved = saved-is w capacity M n S good (omega (arith, good .few))
-
-    -- both are the port that the lookup answers
-    scan-is : (x : ℕ) → x < 2 ^ w → scan S (bits w x) ≡ scanOf w (tableRoutes w M n) n x
-    scan-is x h =
-        sym (ap (λ (f : Found). f .port) (lookup-is-scan w capacity M n x S good h))
-        ∙ lookup-is-saved-scan w capacity M n x (check-is-good w capacity M n .1 (S, good)) (omega (arith, good .few)) h .port
-
-    is-listed : rs ≡ listed w (tableRoutes w M n) n
-    is-listed =
-        listing-unique (scanOf w (tableRoutes w M n) n) (2 ^ w) rs (listed w (tableRoutes w M n) n)
-        (lists-same (λ x. scan S (bits w x)) (scanOf w (tableRoutes w M n) n) (2 ^ w) 0 rs scan-is lists)
-        (listed-lists w (tableRoutes w M n) n)
-
-    few-runs : length rs ≤ mostRuns
-    few-runs = rw is-listed (never-too-many w (tableRoutes w M n) n (w-saved .list))
+    rw (fine w capacity M n S rs good small lists)
+    (ap (λ (qs : List Run). writeRuns qs lent) (sym (is-listed w capacity M n S rs good small lists))
+    ∙ rw (le-leb (length rs) (length lent / runSize) (omega (arith, room))) refl)

@@ -14,7 +14,14 @@ use Rattle.table_rules.specs.Rows.{Mem}
 use Rattle.table_rules.specs.Holds.{GoodFor}
 use Rattle.table_rules.specs.Check.{isGood}
 use Rattle.runs_rules.specs.Runs.{Run, Lists, runSize, runWords}
+use Rattle.runs_rules.specs.Theorems.{mostRuns}
 use Rattle.table_runs.specs.TableRuns.{tableRuns}
+
+-- a table in good order has no more runs than 4,096 routes can have, so no refusal is needed for more: there is no 13
+abbrev pub TableFew : Type 0
+TableFew =
+    (w capacity : ℕ) (M : Mem) (n : ℕ) (S : Routes) (rs : List Run) → GoodFor w capacity M n S → capacity ≤ mostRoutes
+    → Lists (λ a. scan S (bits w a)) (2 ^ w) 0 rs → length rs ≤ mostRuns
 
 -- a table in good order with room for its runs: the words of THE listing of the plain scan of just the routes it holds, what
 -- lay past them, and how many runs

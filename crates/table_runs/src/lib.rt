@@ -13,7 +13,7 @@ use table_save::save;
 const LIST_SIZE: usize = MOST_ROUTES * ROUTE_SIZE;
 
 // The run listing of a table of n rows: three words a run, first address, last address, port; and their number. Refuses 11
-// where the table is not in good order, then 13, more than 8,193 runs, then 9, no room for them, all at place 0.
+// where the table is not in good order, then 9, no room for the runs, both at place 0.
 pub fn table_runs(rows: &[u32], n: u32, runs: &mut [u32]) -> Answer
     ensures { λ r. ⌜ outcome r (now (runs .exit)) ≡ tableRuns 32 (capacity (now (rows .entry))) (rowAt (now (rows .entry))) n (now (runs .entry)) ⌝ }
 {

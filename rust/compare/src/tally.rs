@@ -3,8 +3,8 @@
 use std::collections::BTreeMap;
 use std::fmt;
 
-/// Done, and the refusals 1 to 13.
-const NUMBERS: usize = 14;
+/// Done, and the refusals 1 to 12.
+const NUMBERS: usize = 13;
 
 /// Counts by call and by number answered.
 #[derive(Default)]

@@ -19,7 +19,7 @@ pub const NO_ROOM: u32 = 9;
 pub const NOT_HELD: u32 = 10;
 pub const NOT_IN_ORDER: u32 = 11;
 pub const WRONG_STRIDE: u32 = 12;
-pub const TOO_MANY_RUNS: u32 = 13;
+// 13 is not given, and no other refusal takes the number.
 
 unsafe extern "C" {
     pub fn mft_file_read(file: *const u8, file_size: usize, list: *mut u32, list_words: usize, answer: *mut u32)

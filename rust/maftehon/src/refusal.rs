@@ -15,7 +15,8 @@ pub enum Place {
     Byte(u32),
 }
 
-/// Why a call was refused: the published list, in its order. A refused call has changed nothing.
+/// Why a call was refused: the published list, in its order. A refused call has changed nothing. No call answers 13, and
+/// no other refusal will take the number: it was for more than 8,193 runs, which 4,096 routes cannot have.
 ///
 /// ```
 /// use maftehon::{Place, Refusal, RouteList};
@@ -52,8 +53,6 @@ pub enum Refusal {
     NotInOrder,
     /// 12: the stride is not 1, 2 or 4.
     WrongStride,
-    /// 13: more than 8,193 runs.
-    TooManyRuns,
 }
 
 impl Refusal {
@@ -73,12 +72,11 @@ impl Refusal {
             Refusal::NotHeld,
             Refusal::NotInOrder,
             Refusal::WrongStride,
-            Refusal::TooManyRuns,
         ];
         all.into_iter().find(|refusal| refusal.number() == number)
     }
 
-    /// The published number, 1 to 13.
+    /// The published number, 1 to 12.
     pub fn number(self) -> u32 {
         match self {
             Refusal::ShortFile => sys::SHORT_FILE,
@@ -93,7 +91,6 @@ impl Refusal {
             Refusal::NotHeld => sys::NOT_HELD,
             Refusal::NotInOrder => sys::NOT_IN_ORDER,
             Refusal::WrongStride => sys::WRONG_STRIDE,
-            Refusal::TooManyRuns => sys::TOO_MANY_RUNS,
         }
     }
 
@@ -132,7 +129,6 @@ impl Refusal {
             Refusal::NotHeld => "the prefix to withdraw is not in the table",
             Refusal::NotInOrder => "the table or image is damaged; build it again from its list",
             Refusal::WrongStride => "the stride is not 1, 2 or 4",
-            Refusal::TooManyRuns => "there are more than 8193 runs",
         }
     }
 }

@@ -95,7 +95,7 @@ fn the_declarations_are_those_of_the_header() {
 #[test]
 fn the_numbers_are_those_of_the_header_in_every_language() {
     let header = numbers_of_the_header();
-    assert_eq!(header.len(), 14);
+    assert_eq!(header.len(), 13);
     assert_eq!(constants(SYS), header);
     assert_eq!(constants(REFERENCE_REFUSALS), header);
     // Rattle has bounds beside its refusals, and no name for 0.
@@ -119,4 +119,13 @@ fn a_number_that_the_header_does_not_have_is_no_refusal() {
     for number in [0, last + 1, u32::MAX] {
         assert_eq!(Refusal::of(number, Place::Whole), None);
     }
+}
+
+#[test]
+fn thirteen_stays_unused_in_every_language() {
+    for numbers in [numbers_of_the_header(), constants(SYS), constants(REFERENCE_REFUSALS), constants(RATTLE_REFUSALS)]
+    {
+        assert!(numbers.values().all(|number| *number != 13), "{numbers:?}");
+    }
+    assert_eq!(Refusal::of(13, Place::Whole), None);
 }

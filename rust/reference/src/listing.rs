@@ -2,32 +2,28 @@
 
 use crate::list::routes_of;
 use crate::prefix::{plain_scan, Route};
-use crate::refusal::{refuse, write_out, Answer, Refusal, TOO_MANY_RUNS};
+use crate::refusal::{write_out, Answer, Refusal};
 use crate::table::routes_of_table;
 use std::collections::BTreeSet;
 
 /// Words of a run: first address, last address, port.
 pub(crate) const RUN_WORDS: usize = 3;
-pub(crate) const RUNS_LAST: usize = 8193;
 
 /// First address, last address, port.
 type Run = [u32; RUN_WORDS];
 
-/// The runs of a list: the list checks, then 13, then 9. Answer: place, runs.
+/// The runs of a list: the list checks, then 9. Answer: place, runs.
 pub fn list_runs(list: &[u32], runs: &mut [u32]) -> Answer<2> {
     Answer::of(routes_of(list).and_then(|routes| write_runs(&routes, runs)), [0])
 }
 
-/// The runs of a table: 11, then 13, then 9. Answer: place, runs.
+/// The runs of a table: 11, then 9. Answer: place, runs.
 pub fn table_runs(rows: &[u32], n: u32, runs: &mut [u32]) -> Answer<2> {
     Answer::of(routes_of_table(rows, n).and_then(|routes| write_runs(&routes, runs)), [0])
 }
 
 fn write_runs(routes: &[Route], lent: &mut [u32]) -> Result<[u32; 1], Refusal> {
     let runs = runs_of(routes);
-    if runs.len() > RUNS_LAST {
-        return refuse(TOO_MANY_RUNS, 0);
-    }
     write_out(&runs.concat(), lent)?;
     Ok([runs.len() as u32])
 }

@@ -13,7 +13,7 @@ pub const NO_ROOM: u32 = 9;
 pub const NOT_HELD: u32 = 10;
 pub const NOT_IN_ORDER: u32 = 11;
 pub const WRONG_STRIDE: u32 = 12;
-pub const TOO_MANY_RUNS: u32 = 13;
+// 13 is not given, and no other refusal takes the number.
 
 /// A refusal's number and its place.
 #[derive(Clone, Copy, PartialEq, Eq, Debug)]

@@ -2,7 +2,7 @@
 
 use crate::file::file_read;
 use crate::list::ROUTE_WORDS;
-use crate::listing::{list_runs, RUNS_LAST, RUN_WORDS};
+use crate::listing::{list_runs, RUN_WORDS};
 use crate::refusal::{DONE, NO_ROOM};
 use std::net::Ipv4Addr;
 
@@ -25,7 +25,8 @@ fn text(input: &[u8]) -> String {
         return refused(read.number, read.answer[0]);
     }
     let routes = read.answer[1] as usize;
-    let mut runs = vec![0; RUNS_LAST * RUN_WORDS];
+    // n routes have at most 2n+1 runs.
+    let mut runs = vec![0; (2 * routes + 1) * RUN_WORDS];
     let listed = list_runs(&list[..routes * ROUTE_WORDS], &mut runs);
     if listed.number != DONE {
         return refused(listed.number, listed.answer[0]);

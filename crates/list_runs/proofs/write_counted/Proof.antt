@@ -1,4 +1,5 @@
-use Rattle.list_runs.proofs.Answers.{sweepable-to-count, write-runs-many, write-runs-short, write-runs-done}
+use native.Mathlib.Omega.{arith}
+use Rattle.list_runs.proofs.Answers.{sweepable-to-count, swept-few, write-runs-short, write-runs-done}
 use borrow.Author.Needs.{needs}
 use Rattle.list_runs.proofs.write_counted.Statement.{statement}
 use Rattle.list_runs.proofs.write_counted.Tie as tie
@@ -14,33 +15,24 @@ same-length c = search needs
 
 returns : tie.Need-returns
 returns c =
-    write-runs-many (c .before .before .before .before .sweep .ensures) (c .refused .ensures) (c .before .if1 .taken)
+    write-runs-short (c .before .before .before .before .sweep .ensures) (c .refused .ensures) (c .before .if1 .taken)
 
-refused-requires-2 : tie.Need-refused-requires-2
-refused-requires-2 c κs = search needs
+sweep-requires-2 : tie.Need-sweep-requires-2
+sweep-requires-2 c κs = search needs
+
+cast-accepted : tie.Need-cast-accepted
+cast-accepted c =
+    omega (arith, swept-few (c .before .before .before .before .before .before .before .before .before .before .before .pre) (c .before .before .before .before .before .before .before .sweep .ensures))
+
+accepted-requires : tie.Need-accepted-requires
+accepted-requires c κs = search needs
 
 same-length-2 : tie.Need-same-length-2
 same-length-2 c = search needs
 
 returns-2 : tie.Need-returns-2
 returns-2 c =
-    write-runs-short (c .before .before .before .before .before .sweep .ensures) (c .refused2 .ensures) (c .before .before .if1 .left) (c .before .if2 .taken)
-
-sweep-requires-2 : tie.Need-sweep-requires-2
-sweep-requires-2 c κs = search needs
-
-cast-accepted : tie.Need-cast-accepted
-cast-accepted c = search needs
-
-accepted-requires : tie.Need-accepted-requires
-accepted-requires c κs = search needs
-
-same-length-3 : tie.Need-same-length-3
-same-length-3 c = search needs
-
-returns-3 : tie.Need-returns-3
-returns-3 c =
-    write-runs-done (c .before .before .before .before .before .before .before .before .before .sweep .ensures) (c .accepted .ensures) (c .before .before .before .before .before .before .if1 .left) (c .before .before .before .before .before .if2 .left) (c .before .before .before .sweep2 .ensures)
+    write-runs-done (c .before .before .before .before .before .before .before .before .sweep .ensures) (c .accepted .ensures) (c .before .before .before .before .before .if1 .left) (c .before .before .before .sweep2 .ensures)
 
 pub write-counted-spec : {M : Type 1} → statement M
 write-counted-spec =
@@ -50,11 +42,8 @@ write-counted-spec =
     refused-requires
     same-length
     returns
-    refused-requires-2
-    same-length-2
-    returns-2
     sweep-requires-2
     cast-accepted
     accepted-requires
-    same-length-3
-    returns-3)
+    same-length-2
+    returns-2)

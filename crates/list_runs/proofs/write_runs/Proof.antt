@@ -1,6 +1,6 @@
 use native.Mathlib.Omega.{arith}
 use borrow.Author.Needs.{needs}
-use Rattle.list_runs.proofs.Answers.{sweepable-at-once, few-at-once, write-runs-at-once}
+use Rattle.list_runs.proofs.Answers.{sweepable-at-once, swept-few, write-runs-at-once}
 use Rattle.list_runs.proofs.write_runs.Statement.{statement}
 use Rattle.list_runs.proofs.write_runs.Tie as tie
 
@@ -12,7 +12,7 @@ sweep-requires c κs = sweepable-at-once (c .before .before .before .before .pre
 
 cast-accepted : tie.Need-cast-accepted
 cast-accepted c =
-    omega (arith, few-at-once (c .before .before .before .before .before .before .before .pre) (c .before .before .before .before .if1 .taken) (c .before .before .sweep .ensures))
+    omega (arith, swept-few (c .before .before .before .before .before .before .before .pre) (c .before .before .sweep .ensures))
 
 accepted-requires : tie.Need-accepted-requires
 accepted-requires c κs = search needs

@@ -36,12 +36,14 @@ fn lists_about_the_most_routes_are_accepted_and_refused_alike() {
 }
 
 #[test]
-fn the_most_runs_are_8193_and_listed_alike() {
+fn a_list_of_8193_runs_is_listed_with_room_for_them_and_refused_9_with_room_for_8192() {
     on_seeds(1, |checker, _| {
         // Routes that touch neither each other nor an end of the space: two boundaries each.
         let apart: Held = (1..=4096).map(|value| ((2 * value + 1, 32), 1)).collect();
         let (answer, _) = checker.list_runs(&workload::list_of(&apart), 3 * 8193)?;
         assert_eq!((answer.number, answer.answer), (0, [0, 8193]));
+        let (short, _) = checker.list_runs(&workload::list_of(&apart), 3 * 8192)?;
+        assert_eq!((short.number, short.answer), (9, [0, 0]));
         checker.list_runs(&workload::list_of(&apart), 3 * 8193 - 1)?;
         Ok(())
     });

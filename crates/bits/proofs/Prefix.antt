@@ -2,9 +2,9 @@
 use mathlib.Core.Path.{_≡_, refl, sym, ap, ap₂, _∙_}
 use mathlib.Core.Logic.{_⊎_, inl, inr, ⊎-elim}
 use mathlib.Core.Bool.{Bool, true, false, _&&_, _||_, or-true}
-use Prim.Native.Nat.{ℕ, zero, suc, _+_, _-_, _*_, _/_, _%_, _^_, _<_, _≤_}
+use Prim.Native.Nat.{ℕ, suc, _+_, _-_, _*_, _/_, _%_, _^_, _<_, _≤_}
 use native.Mathlib.Omega.{arith}
-use native.Mathlib.Nat.{div-add-mod', mod-lt, div-eq-of-lt-le, div-eq-of-lt, mul-mod-left, mul-le-mul-right, suc-mul, mul-comm, mul-assoc}
+use native.Mathlib.Nat.{div-add-mod', mod-lt, div-eq-of-lt-le, div-eq-of-lt, mul-div-cancel, mul-mod-left, mul-le-mul-right, suc-mul, mul-comm, mul-assoc}
 use lib.Dec.{eqb, leb}
 use lib.Pow.{pow-pos, pow-add, shr-shr, shr-lt}
 use borrow.Author.Tests.{eq-eqb, ne-eqb, eqb-true, eqb-false, le-leb, leb-true, leb-false}
@@ -82,6 +82,18 @@ first-clear w v l =
     test-eq (eqb (first w v l) v) (clear w v l)
     (λ t. eq-eqb (v % span w l) 0 (omega (arith, head-rest w l v, eqb-true (first w v l) v t)))
     (λ t. eq-eqb (first w v l) v (omega (arith, head-rest w l v, eqb-true (v % span w l) 0 t)))
+
+-- a first address has none
+pub clear-first : (w v l : ℕ) → clear w (first w v l) l ≡ true
+clear-first w v l = eq-eqb (first w v l % span w l) 0 (mul-mod-left (head w l v) (span w l))
+
+-- what is cleared past a longer length first is cleared past the shorter one all the same
+pub first-first : (w v l m : ℕ) → l ≤ m → m ≤ w → first w (first w v m) l ≡ first w v l
+first-first w v l m h k =
+    ap (λ (x : ℕ). x * span w l) (head-shorter w l m (first w v m) v h k (mul-div-cancel (head w m v) (span-pos w m)))
+
+pub first-le : (w v l : ℕ) → first w v l ≤ v
+first-le w v l = omega (arith, head-rest w l v)
 
 -- two addresses agree in the first l bits exactly where the prefixes of that length around them begin at one address
 pub first-same : (w v l a : ℕ) → eqb (first w a l) (first w v l) ≡ matches w v l a

@@ -1,7 +1,7 @@
 -- THE DEMANDS hold of any boundary that follows the definitions, and so of the library's own. Assumes nothing.
 use mathlib.Core.Path.{_≡_, refl, sym, ap, subst, _∙_}
 use mathlib.Core.Logic.{_⊎_, inl, inr, ⊎-elim}
-use mathlib.Core.Bool.{true, false, cond, false≢true}
+use mathlib.Core.Bool.{true, false, false≢true}
 use mathlib.Core.List.{List, [], _∷_}
 use Prim.Native.Nat.{ℕ, _*_, _%_, _^_, _≤_, _<_}
 use native.Mathlib.Omega.{arith}
@@ -26,7 +26,8 @@ use Rattle.routes.specs.Scan.{scanOf, listScan}
 use Rattle.routes.proofs.Check.{accepted-valid}
 use Rattle.file_rules.specs.Calls.{readFile, writeFile}
 use Rattle.file_rules.specs.File.{FileWidth}
-use Rattle.file_rules.proofs.Trips.{read-written, write-read}
+use Rattle.file_rules.specs.Cleared.{clearedFile}
+use Rattle.file_rules.proofs.Trips.{read-written, write-read, write-read-same}
 use Rattle.table_rows.specs.Words.{capacity, rowAt, fiveWords}
 use Rattle.table_rules.specs.Lookup.{lookupIn}
 use Rattle.table_rules.proofs.Lookup.{lookup-is-scan}
@@ -37,7 +38,6 @@ use Rattle.table_rules.specs.Save.{saved, saveInto}
 use Rattle.table_rules.proofs.Good.{check-is-good}
 use Rattle.table_rules.proofs.Save.{saved-is}
 use Rattle.table_rows.proofs.Words.{words-stores}
-use Rattle.table_update.specs.History.{Table}
 use Rattle.table_update.proofs.BuildIsGood.{built-lookup-is-scan}
 use Rattle.table_update.proofs.BuildIsHistory.{build-accepted}
 use Rattle.image_rules.specs.Lookup.{isStride, Strided, lookupWords}
@@ -54,7 +54,7 @@ use Rattle.maftehon.specs.Reply.{Imaged, repliedImage}
 use Rattle.demands.specs.Lamp.{Verdict, Lamp}
 use Rattle.demands.specs.Boundary.{Boundary, place, result, readCount}
 use Rattle.demands.specs.Exports.{exports}
-use Rattle.demands.specs.History.{Step, emptyTable, atEnd, heldBy}
+use Rattle.demands.specs.History.{emptyTable, atEnd, heldBy}
 use Rattle.demands.specs.Demands as demands
 use Rattle.demands.specs.Demands.{Demand1, Demand2, Demand3, OneListing, Demands}
 use Rattle.demands.proofs.Shown.{On, Refuses, RefusesOnly, looking}
@@ -214,7 +214,13 @@ module _ (B : Boundary) (f : Follows B) where
         let is = f .file-read file list g m in
         f .file-write (take (result (g .answer) * 3) (g .lent)) lent o r
         ∙ ap (λ (y : Outcome Reply). replied (writeFile 32 (take (result (y .answer) * 3) (y .lent)) lent)) is
-        ∙ ap replied (write-read 32 file list lent address-width bytes (sym (ap numberOf is) ∙ z) room);
+        ∙ ap replied (write-read 32 file list lent address-width bytes (sym (ap numberOf is) ∙ z) room)
+        ∙ ap (λ (y : Outcome Reply). replied (outcome (accepted (length file)) (over (clearedFile file (result (y .answer))) lent))) (sym is);
+    write-read-same = λ file list lent g o bytes room m z none r.
+        let is = f .file-read file list g m in
+        f .file-write (take (result (g .answer) * 3) (g .lent)) lent o r
+        ∙ ap (λ (y : Outcome Reply). replied (writeFile 32 (take (result (y .answer) * 3) (y .lent)) lent)) is
+        ∙ ap replied (write-read-same 32 file list lent address-width bytes (sym (ap numberOf is) ∙ z) (rw is at none) room);
   }
 
   pub demand-3 : Demand3 B

@@ -42,7 +42,7 @@ module _ (Such : Verdict → Type 0) (shown : (number place : ℕ) → eqb numbe
   of-routes-in-file w file (suc k) i rest x =
       either _ _ _
       (check _ _ _ _ refl (check _ _ _ _ refl (check _ _ _ _ refl (check _ _ _ _ refl (check _ _ _ _ refl
-      (check _ _ _ _ refl (of-routes-in-file w file k (i + 1) rest x)))))))
+      (of-routes-in-file w file k (i + 1) rest x))))))
       (x i)
 
   of-file : (w : ℕ) (file : List ℕ) (rest : ℕ → Verdict) → ((n : ℕ) → Such (rest n)) → Such (fileChecks w file rest)

@@ -61,12 +61,10 @@ module _ (v : View) (made : Answer → v .Seen) (hands-on : (m p : ℕ) → 0 < 
         (on-unless v (ltb i mostRoutes) _ (tells-lt i mostRoutes) tooManyRoutes at _ answer _
         (on-unless v (leb (lenAt file at) w) _ (tells-le (lenAt file at) w) longPrefix at _ answer _
         (on-unless v (leb (at + sizeFor (lenAt file at)) (length file)) _ (tells-le _ _) wrongSize at _ answer _
-        (on-unless v (readAt w file at .fine) _ (tells-itself _) spareBits at _ answer _
-        (on-unless v (isPort (readAt w file at .route .port)) _ (tells-port _) wrongPort at _ answer _
+        (on-unless v (isPort (readAt w file at .port)) _ (tells-port _) wrongPort at _ answer _
         (on-unless v (above (fileRoute w file) i) _ (tells-above (fileRoute w file) i) notAbove at _ answer 0 (on-each-in-file k (i + 1))
         (hands-on notAbove at (omega arith)))
         (hands-on wrongPort at (omega arith)))
-        (hands-on spareBits at (omega arith)))
         (hands-on wrongSize at (omega arith)))
         (hands-on longPrefix at (omega arith)))
         (hands-on tooManyRoutes at (omega arith)))

@@ -55,7 +55,7 @@ listChecks w words rest =
     refuse wrongSize 0 (length words % 3 ≡ 0 → ⊥)
     (refuse tooManyRoutes 0 (mostRoutes < routeCount words) (eachRoute w (routeAt words) (routeCount words) 0 rest))
 
--- "per route 8, 4, 3 (cut), 5, 6, 7", at the route's first byte: from route i on, at most k of them, as long as bytes are left
+-- per route 8, 4, 3 (cut), 6, 7, at the route's first byte: from route i on, at most k of them, as long as bytes are left
 abbrev pub eachInFile : ℕ → List ℕ → ℕ → ℕ → (ℕ → Verdict) → Verdict
 eachInFile w file zero i rest = rest i
 eachInFile w file (suc k) i rest =
@@ -64,9 +64,8 @@ eachInFile w file (suc k) i rest =
     (refuse tooManyRoutes at (mostRoutes ≤ i)
     (refuse longPrefix at (w < lenAt file at)
     (refuse wrongSize at (length file < at + sizeFor (lenAt file at))
-    (refuse spareBits at (readAt w file at .fine ≡ false)
-    (refuse wrongPort at (NoPort (readAt w file at .route .port))
-    (refuse notAbove at (NotAbove (fileRoute w file) i) (eachInFile w file k (i + 1) rest)))))))
+    (refuse wrongPort at (NoPort (readAt w file at .port))
+    (refuse notAbove at (NotAbove (fileRoute w file) i) (eachInFile w file k (i + 1) rest))))))
     (rest i)
 
 -- "File: 1, 2, 3 (size); per route"; what follows is told how many routes there are

@@ -14,6 +14,7 @@ use Rattle.routes.specs.Routes.{routeAt, routeCount, wordsOf, Words}
 use Rattle.routes.specs.Scan.{scanOf}
 use Rattle.routes.specs.declared.Route.{Route}
 use Rattle.file_rules.specs.Bytes.{Bytes}
+use Rattle.file_rules.specs.Cleared.{clearedFile, SpareZero}
 use Rattle.table_rows.specs.Words.{capacity, rowAt}
 use Rattle.table_rules.specs.Holds.{GoodFor}
 use Rattle.table_rules.specs.RowsRead.{RowsRead}
@@ -108,7 +109,8 @@ Demand1Decides = EachCall Decides
 -- DEMAND 2. "Both tries, built from a valid list, give for each of the 2^32 addresses the port that a plain scan gives (longest match,
 -- RFC 4632; 0 if none)." A build that returned 0 had a valid list, by demand 1; the lookup is handed what the build left. Stronger:
 -- what else the memory lent holds does not matter, and the nodes read are told too.
--- "Reading a written file returns the same routes; writing what was read returns the same bytes." All of them, and their number.
+-- "Reading a written file returns the same routes; writing what was read returns the same bytes" "for files whose spare bits are zero;
+-- others come back with them cleared." All of them, and their number.
 pub record Demand2 (B : Boundary) : Type 0 where
   pub scanned :
       (list : List ℕ) (a : ℕ) (x : Reply) → B .list-scan list a x → x .number ≡ 0
@@ -129,6 +131,11 @@ pub record Demand2 (B : Boundary) : Type 0 where
   pub write-read :
       (file list lent : List ℕ) (got o : Outcome Reply) → Bytes file → length file ≤ length lent
       → B .file-read file list got → got .answer .number ≡ 0
+      → B .file-write (take (result (got .answer) * 3) (got .lent)) lent o
+      → o ≡ replied (outcome (accepted (length file)) (over (clearedFile file (result (got .answer))) lent))
+  pub write-read-same :
+      (file list lent : List ℕ) (got o : Outcome Reply) → Bytes file → length file ≤ length lent
+      → B .file-read file list got → got .answer .number ≡ 0 → SpareZero file (result (got .answer))
       → B .file-write (take (result (got .answer) * 3) (got .lent)) lent o
       → o ≡ replied (outcome (accepted (length file)) (over file lent))
 

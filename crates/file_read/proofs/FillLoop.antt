@@ -11,7 +11,6 @@ use Rattle.routes.specs.declared.Route.{Route}
 use Rattle.file_rules.specs.File.{lenAt, readAt, placeOf, fileRoute, sizeFor}
 use Rattle.lists.specs.Numbered.{inOrder}
 use Rattle.file_rules.specs.Check.{Entire}
-use Rattle.file_rules.specs.declared.Spared.{Spared}
 use Rattle.lists.proofs.InOrder.{in-order-more}
 use Rattle.file_rules.proofs.Sound.{place-more, fault-none}
 use Rattle.file_read.specs.Needs.{FitsList}
@@ -33,35 +32,35 @@ module _ (w : ℕ) (file list₀ : List ℕ) (n : ℕ) (fits : FitsList w file l
   filled-entire h = rw (so .at-place) (fault-none w file i (fits .whole .none i h) .entire)
 
   -- the next offset lies in the file, or at its end
-  pub filled-next : i < n → (x : Spared) (k : ℕ) → x ≡ readAt w file at → k ≡ sizeFor (x .route .len) → at + k ≤ length file
+  pub filled-next : i < n → (r : Route) (k : ℕ) → r ≡ readAt w file at → k ≡ sizeFor (r .len) → at + k ≤ length file
   unfolding readAt
-  filled-next h x k x-is k-is =
-      let e : k ≡ sizeFor (lenAt file at) = k-is ∙ ap (λ (y : Spared). sizeFor (y .route .len)) x-is in
+  filled-next h r k r-is k-is =
+      let e : k ≡ sizeFor (lenAt file at) = k-is ∙ ap (λ (y : Route). sizeFor (y .len)) r-is in
       omega (arith, filled-entire h .uncut, e)
 
-  pub filled-more : i < n → (x : Spared) (list′ : List ℕ) (k : ℕ) → x ≡ readAt w file at
-      → list′ ≡ storeRoute list i (x .route) → k ≡ sizeFor (x .route .len)
+  pub filled-more : i < n → (r : Route) (list′ : List ℕ) (k : ℕ) → r ≡ readAt w file at
+      → list′ ≡ storeRoute list i r → k ≡ sizeFor (r .len)
       → Filled w file list₀ n list′ (at + k) (i + 1)
   unfolding readAt
-  filled-more h x list′ k x-is list-is k-is = record {
+  filled-more h r list′ k r-is list-is k-is = record {
     passed = omega arith;
-    at-place = ap₂ (λ (p q : ℕ). p + q) (so .at-place) (k-is ∙ ap (λ (r : Route). sizeFor (r .len)) route-is) ∙ sym (place-more file i);
+    at-place = ap₂ (λ (p q : ℕ). p + q) (so .at-place) (k-is ∙ ap (λ (y : Route). sizeFor (y .len)) route-is) ∙ sym (place-more file i);
     same = ap length stored ∙ simp length-set (so .same);
     written =
-        stored ∙ ap (λ (l : List ℕ). storeThree l (i * 3) (x .route .value) (x .route .len) (x .route .port)) (so .written)
-        ∙ over-three (listOfRoutes R i) list₀ (x .route .value) (x .route .len) (x .route .port) (i * 3) (length-list R i) (omega (arith, fits .room))
-        ∙ ap (λ (r : Route). over (listOfRoutes R i ++ routeWords r) list₀) route-is
+        stored ∙ ap (λ (l : List ℕ). storeThree l (i * 3) (r .value) (r .len) (r .port)) (so .written)
+        ∙ over-three (listOfRoutes R i) list₀ (r .value) (r .len) (r .port) (i * 3) (length-list R i) (omega (arith, fits .room))
+        ∙ ap (λ (y : Route). over (listOfRoutes R i ++ routeWords y) list₀) route-is
         ∙ ap (λ (l : List ℕ). over l list₀) (sym (in-order-more routeWords R i));
   }
     where
       R : ℕ → Route
       R = fileRoute w file
 
-      stored : list′ ≡ storeThree list (i * 3) (x .route .value) (x .route .len) (x .route .port)
-      stored = list-is ∙ store-whole list i (x .route) (omega (arith, fits .room, so .same))
+      stored : list′ ≡ storeThree list (i * 3) (r .value) (r .len) (r .port)
+      stored = list-is ∙ store-whole list i r (omega (arith, fits .room, so .same))
 
-      route-is : x .route ≡ R i
-      route-is = ap (λ (y : Spared). y .route) (x-is ∙ ap (readAt w file) (so .at-place))
+      route-is : r ≡ R i
+      route-is = r-is ∙ ap (readAt w file) (so .at-place)
 
   pub filled-all : n ≤ i → list ≡ over (listOfRoutes (fileRoute w file) n) list₀
   filled-all h =

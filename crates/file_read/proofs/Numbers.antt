@@ -1,14 +1,17 @@
--- A number read byte by byte, and shifted up to its place. Assumes nothing.
+-- A number read byte by byte, shifted up to its place, and cleared past a length. Assumes nothing.
 use mathlib.Core.Path.{_≡_, refl, sym, ap, ap₂, _∙_}
 use mathlib.Core.List.{List, [], _∷_, _++_}
 use Prim.Native.Nat.{ℕ, zero, suc, _+_, _-_, _*_, _/_, _%_, _^_, _≤_, _<_}
 use native.Mathlib.Omega.{arith}
 use native.Mathlib.Numerals.{add-one}
-use native.Mathlib.Nat.{add-zero, add-suc, div-one}
-use lib.Pow.{pow-add, pow-mono, shl-exact, shl-lt, shr-shr, shr-lt, high}
+use native.Mathlib.Nat.{add-zero, add-suc, div-one, mod-eq-of-lt}
+use lib.Pow.{pow-add, pow-mono, shl-exact, shl-lt, shr-shr, high}
 use lib.ListN.{length, getD, take, drop, length-drop}
 use lib.Seq.{take-suc, getD-drop}
+use Rattle.bits.specs.Prefix.{first}
+use Rattle.bits.proofs.Prefix.{first-first, first-le}
 use Rattle.file_rules.specs.Bytes.{number, Bytes}
+use Rattle.file_rules.specs.File.{prefixBytes, valueFrom}
 use Rattle.file_rules.proofs.Bytes.{number-snoc, bytes-drop}
 use Rattle.file_read.specs.Needs.{ByteIs, NumberAt}
 
@@ -56,17 +59,22 @@ module _ (file : List ℕ) (from : ℕ) where
       ∙ ap (λ (n : ℕ). n / 2 ^ (8 * m)) (high N 8 (bytes-drop file from bytes (k + m)))
       ∙ number-front bytes k m (omega arith)
 
-  -- the first k of four bytes, as the code has them
-  pub front-is : Bytes file → (k all : ℕ) → k ≤ 4 → from + 4 ≤ length file → NumberAt file from 4 all
-      → NumberAt file from k (all / 2 ^ (32 - 8 * k))
-  front-is bytes k all few h x =
+  -- of four bytes, those past the prefix are cleared with its spare bits
+  pub front-cleared : Bytes file → (len all : ℕ) → len ≤ 32 → from + 4 ≤ length file → NumberAt file from 4 all
+      → first 32 all len ≡ first 32 (valueFrom 32 file from len) len
+  front-cleared bytes len all short h x =
+      let k : ℕ = prefixBytes len in
       let four : k + (4 - k) ≡ 4 = omega arith in
       let gap : 8 * (4 - k) ≡ 32 - 8 * k = omega arith in
-      let whole : 8 * k + (32 - 8 * k) ≡ 32 = omega arith in
-      record {
-        is = ap (λ (n : ℕ). n / 2 ^ (32 - 8 * k)) (x .is) ∙ rw (four, gap) at (number-front bytes k (4 - k) (omega arith));
-        small = shr-lt {n = all} (8 * k) (32 - 8 * k) (rw whole (x .small));
-      }
+      let front : all / 2 ^ (32 - 8 * k) ≡ number (take k (drop from file)) =
+      ap (λ (n : ℕ). n / 2 ^ (32 - 8 * k)) (x .is) ∙ rw (four, gap) at (number-front bytes k (4 - k) (omega arith)) in
+      sym (first-first 32 all len (8 * k) (omega arith) (omega arith)) ∙ ap (λ (n : ℕ). first 32 (n * 2 ^ (32 - 8 * k)) len) front
+
+-- a number of w bits with those past a length cleared, which is what the code computes at 64
+pub cut : (w x l : ℕ) → w ≤ 64 → x < 2 ^ w → (first w x l % 2 ^ 64 ≡ first w x l) × (first w x l < 2 ^ w)
+cut w x l wide small =
+    let lt : first w x l < 2 ^ w = omega (arith, first-le w x l) in
+    (mod-eq-of-lt (omega (arith, lt, pow-mono wide)), lt)
 
 -- a number of k bytes, shifted up to w bits, which is what the code computes at 64
 pub shifted : (w x k : ℕ) → w ≤ 64 → 8 * k ≤ w → x < 2 ^ (8 * k)

@@ -5,28 +5,28 @@ use mathlib.Core.List.{List}
 use Prim.Native.Nat.{ℕ, _+_}
 use lib.Dec.{eqb}
 use borrow.Author.Tests.{ne-eqb}
-use Rattle.bits.specs.Prefix.{precedes}
+use Rattle.bits.specs.Prefix.{first, precedes}
 use Rattle.refusals.specs.Refusals.{refused}
 use Rattle.routes.specs.Routes.{route}
 use Rattle.refusals.specs.declared.Answer.{Answer}
 use Rattle.routes.proofs.Faults.{chain-fault, chain-rest}
-use Rattle.file_rules.specs.File.{prefixBytes, lenAt, valueFrom, portFrom, spare, readAt, sizeFor}
+use Rattle.file_rules.specs.File.{prefixBytes, lenAt, valueFrom, portFrom, cleared, readAt, sizeFor}
 use Rattle.file_rules.specs.Check.{frameFault, contentFault, Entire}
 use Rattle.file_read.specs.Step.{faultAfter, cursorAfter, stepAt}
 use Rattle.file_read.specs.declared.step.Cursor.{Cursor}
-use Rattle.file_rules.specs.declared.Spared.{Spared}
+use Rattle.routes.specs.declared.Route.{Route}
 use Rattle.file_read.specs.declared.step.Step.the-variants.{Took, Refused}
 use Rattle.file_rules.proofs.Sound.{frame-fault-rest, frame-none}
 use Rattle.prefix.specs.Prefixes.{prefix}
 use Rattle.prefix.specs.declared.Prefix.{Prefix}
 
-pub read-is : (w : ℕ) (file : List ℕ) (at len k value port : ℕ) (x : Spared)
-    → len ≡ lenAt file at → k ≡ prefixBytes len → value ≡ valueFrom w file (at + 1) len → port ≡ portFrom file (at + 1 + k)
-    → x ≡ spare w (route value len port) → x ≡ readAt w file at
+pub read-is : (w : ℕ) (file : List ℕ) (at len k value port : ℕ)
+    → len ≡ lenAt file at → k ≡ prefixBytes len → value ≡ first w (valueFrom w file (at + 1) len) len → port ≡ portFrom file (at + 1 + k)
+    → route value len port ≡ readAt w file at
 unfolding readAt
-read-is w file at len k value port x len-is k-is value-is port-is e =
-    e ∙ ap₂ (λ (v p : ℕ). spare w (route v len p)) value-is (port-is ∙ ap (λ (j : ℕ). portFrom file (at + 1 + j)) k-is)
-    ∙ ap (λ (l : ℕ). spare w (route (valueFrom w file (at + 1) l) l (portFrom file (at + 1 + prefixBytes l)))) len-is
+read-is w file at len k value port len-is k-is value-is port-is =
+    ap₂ (λ (v p : ℕ). route v len p) value-is (port-is ∙ ap (λ (j : ℕ). portFrom file (at + 1 + j)) k-is)
+    ∙ ap (λ (l : ℕ). cleared w (route (valueFrom w file (at + 1) l) l (portFrom file (at + 1 + prefixBytes l)))) len-is
 
 module _ (w : ℕ) (file : List ℕ) (c : Cursor) (frame : ℕ) (frame-is : frame ≡ frameFault w file (c .count) (c .at) 0) where
   refused-step : (m : ℕ) (a : Answer) → faultAfter w file c ≡ m → (m ≡ 0 → ⊥) → a ≡ refused m (c .at) → Refused a ≡ stepAt w file c
@@ -43,23 +43,23 @@ module _ (w : ℕ) (file : List ℕ) (c : Cursor) (frame : ℕ) (frame-is : fram
     pub step-entire : Entire w file (c .at)
     step-entire = frame-none w file (c .count) (c .at) 0 (sym frame-is ∙ framed) .1
 
-    module _ (x : Spared) (x-is : x ≡ readAt w file (c .at)) (rises : Bool)
-        (rises-is : rises ≡ (eqb (c .count) 0 || precedes (c .past .value) (c .past .len) (x .route .value) (x .route .len)))
+    module _ (x : Route) (x-is : x ≡ readAt w file (c .at)) (rises : Bool)
+        (rises-is : rises ≡ (eqb (c .count) 0 || precedes (c .past .value) (c .past .len) (x .value) (x .len)))
         (fault : ℕ) (fault-is : fault ≡ contentFault x rises) where
       fault-after : faultAfter w file c ≡ fault
       unfolding faultAfter
       fault-after =
           chain-rest (frameFault w file (c .count) (c .at)) (frame-fault-rest w file (c .count) (c .at)) frame frame-is _ framed
           ∙ sym (fault-is ∙ ap (contentFault x) rises-is
-          ∙ ap (λ (y : Spared). contentFault y (eqb (c .count) 0 || precedes (c .past .value) (c .past .len) (y .route .value) (y .route .len))) x-is)
+          ∙ ap (λ (y : Route). contentFault y (eqb (c .count) 0 || precedes (c .past .value) (c .past .len) (y .value) (y .len))) x-is)
 
-      -- 5, 6, 7
+      -- 6, 7
       pub step-faulty : (a : Answer) → (fault ≡ 0 → ⊥) → a ≡ refused fault (c .at) → Refused a ≡ stepAt w file c
       step-faulty a n = refused-step fault a fault-after n
 
-      pub step-took : fault ≡ 0 → (k : ℕ) → k ≡ sizeFor (x .route .len) → (p : Prefix) → p ≡ prefix (x .route .value) (x .route .len)
+      pub step-took : fault ≡ 0 → (k : ℕ) → k ≡ sizeFor (x .len) → (p : Prefix) → p ≡ prefix (x .value) (x .len)
           → Took (record { at = c .at + k; count = c .count + 1; past = p }) ≡ stepAt w file c
       unfolding stepAt
       step-took z k k-is p p-is =
           ap₂ (λ (j : ℕ) (q : Prefix). Took (record { at = c .at + j; count = c .count + 1; past = q })) k-is p-is
-          ∙ sym (rw (fault-after ∙ z) (ap (λ (y : Spared). Took (cursorAfter c (y .route))) (sym x-is)))
+          ∙ sym (rw (fault-after ∙ z) (ap (λ (y : Route). Took (cursorAfter c y)) (sym x-is)))

@@ -56,13 +56,13 @@ module _ (w : ℕ) (file : List ℕ) (c : Cursor) (here : Reached w file c) wher
   took-sound next = go (way (eqb (faultAfter w file c) 0))
     where
       go : (eqb (faultAfter w file c) 0 ≡ true) ⊎ (eqb (faultAfter w file c) 0 ≡ false)
-          → cond (eqb (faultAfter w file c) 0) (Took (cursorAfter c (readAt w file (c .at) .route))) (Refused (refused (faultAfter w file c) (c .at)))
+          → cond (eqb (faultAfter w file c) 0) (Took (cursorAfter c (readAt w file (c .at)))) (Refused (refused (faultAfter w file c) (c .at)))
           ≡ Took next
           → (fileFault w file (c .count) ≡ 0) × (next ≡ cursorAfter c (fileRoute w file (c .count)))
       go (inl t) e =
-          let s : Took (cursorAfter c (readAt w file (c .at) .route)) ≡ Took next = rw t at e in
-          let n : next ≡ cursorAfter c (readAt w file (c .at) .route) = cc in
-          (sym fault-here ∙ eqb-true (faultAfter w file c) 0 t, n ∙ ap (λ (p : ℕ). cursorAfter c (readAt w file p .route)) (here .at-place))
+          let s : Took (cursorAfter c (readAt w file (c .at))) ≡ Took next = rw t at e in
+          let n : next ≡ cursorAfter c (readAt w file (c .at)) = cc in
+          (sym fault-here ∙ eqb-true (faultAfter w file c) 0 t, n ∙ ap (λ (p : ℕ). cursorAfter c (readAt w file p)) (here .at-place))
       go (inr t) e =
           let s : Refused (refused (faultAfter w file c) (c .at)) ≡ Took next = rw t at e in
           let z : _≡_ {A = ℕ} 0 1 = cc in
@@ -74,11 +74,11 @@ module _ (w : ℕ) (file : List ℕ) (c : Cursor) (here : Reached w file c) wher
   refused-fault a = go (way (eqb (faultAfter w file c) 0))
     where
       go : (eqb (faultAfter w file c) 0 ≡ true) ⊎ (eqb (faultAfter w file c) 0 ≡ false)
-          → cond (eqb (faultAfter w file c) 0) (Took (cursorAfter c (readAt w file (c .at) .route))) (Refused (refused (faultAfter w file c) (c .at)))
+          → cond (eqb (faultAfter w file c) 0) (Took (cursorAfter c (readAt w file (c .at)))) (Refused (refused (faultAfter w file c) (c .at)))
           ≡ Refused a
           → (a ≡ refused (fileFault w file (c .count)) (placeOf file (c .count))) × (fileFault w file (c .count) ≡ 0 → ⊥)
       go (inl t) e =
-          let s : Took (cursorAfter c (readAt w file (c .at) .route)) ≡ Refused a = rw t at e in
+          let s : Took (cursorAfter c (readAt w file (c .at))) ≡ Refused a = rw t at e in
           let z : _≡_ {A = ℕ} 0 1 = cc in
           absurd (omega arith)
       go (inr t) e =

@@ -18,7 +18,7 @@ unfoldable pub faultAfter : ℕ → List ℕ → Cursor → ℕ
 faultAfter w file c =
     frameFault w file (c .count) (c .at)
     (contentFault (readAt w file (c .at))
-    (eqb (c .count) 0 || precedes (c .past .value) (c .past .len) (readAt w file (c .at) .route .value) (readAt w file (c .at) .route .len)))
+    (eqb (c .count) 0 || precedes (c .past .value) (c .past .len) (readAt w file (c .at) .value) (readAt w file (c .at) .len)))
 
 abbrev pub cursorAfter : Cursor → Route → Cursor
 cursorAfter c r = record { at = c .at + sizeFor (r .len); count = c .count + 1; past = prefix (r .value) (r .len) }
@@ -27,5 +27,5 @@ cursorAfter c r = record { at = c .at + sizeFor (r .len); count = c .count + 1; 
 unfoldable pub stepAt : ℕ → List ℕ → Cursor → Step
 stepAt w file c =
     cond (eqb (faultAfter w file c) 0)
-    (Took (cursorAfter c (readAt w file (c .at) .route)))
+    (Took (cursorAfter c (readAt w file (c .at))))
     (Refused (refused (faultAfter w file c) (c .at)))

@@ -77,8 +77,7 @@ fn fill_list(file: &[u8], list: &mut [u32], n: usize)
     let mut at = HEAD_SIZE;
     let mut i: usize = 0;
     while i < n {
-        let x = read_at(file, at);
-        let r = x.route;
+        let r = read_at(file, at);
         store_route(list, i, r);
         at += route_size(r.len);
         i += 1;
@@ -86,7 +85,7 @@ fn fill_list(file: &[u8], list: &mut [u32], n: usize)
 }
 
 // Reads a route file into a list; answers how many routes. Refuses 1, 2, 3 (size) at place 0; then the first route that is at
-// fault, at the offset of its first byte, with its first fault of 8, 4, 3 (cut), 5, 6, 7; last 9, the list is too short.
+// fault, at the offset of its first byte, with its first fault of 8, 4, 3 (cut), 6, 7; last 9, the list is too short.
 pub fn read_file(file: &[u8], list: &mut [u32]) -> Answer
     ensures { λ r. ⌜ outcome r (now (list .exit)) ≡ readFile 32 (now (file .entry)) (now (list .entry)) ⌝ }
 {

@@ -1,22 +1,20 @@
 // One step of the reader at a cursor: the cursor after the route, or the refusal with its place.
 ghost use mathlib.Core.Path.{_≡_};
 ghost use mathlib.Core.Bool.{_||_};
-ghost use Prim.Native.Nat.{_+_, _≤_, _<_};
+ghost use Prim.Native.Nat.{_+_, _^_, _≤_, _<_};
 ghost use lib.Dec.{eqb};
 ghost use lib.ListN.{length};
-ghost use Rattle.bits.specs.Prefix.{precedes};
-ghost use Rattle.file_rules.specs.File.{prefixBytes, lenAt, valueFrom, portFrom, spare, readAt};
+ghost use Rattle.bits.specs.Prefix.{first, precedes};
+ghost use Rattle.file_rules.specs.File.{prefixBytes, lenAt, valueFrom, portFrom, readAt};
 ghost use Rattle.file_rules.specs.Check.{frameFault, contentFault, Entire};
 ghost use Rattle.file_read.specs.Step.{stepAt};
 ghost use Rattle.file_read.specs.Needs.{ByteIs, NumberAt, Standing};
-use file_rules::Spared;
 use file_rules::prefix_bytes;
 use file_rules::route_size;
 use prefix::Prefix;
 use refusals::Answer;
 use refusals::LONG_PREFIX;
 use refusals::NOT_ABOVE;
-use refusals::SPARE_BITS;
 use refusals::TOO_MANY_ROUTES;
 use refusals::WRONG_PORT;
 use refusals::WRONG_SIZE;
@@ -66,20 +64,27 @@ fn length_at(file: &[u8], at: usize) -> u32
     wide(file[at]) as u32
 }
 
-// The value of a prefix from its bytes.
+// The bytes of a value with all that is past the length cleared. Nothing else decides what becomes of spare bits.
+fn cleared(bytes: u64, len: u32) -> u32
+    requires { ⌜ (bytes < 2 ^ 32) × (len ≤ 32) ⌝ }
+    ensures { λ r. ⌜ r ≡ first 32 bytes len ⌝ }
+{
+    let past = (32 - len) as usize;
+    ((bytes >> past) << past) as u32
+}
+
+// The value of a prefix from its bytes, its spare bits cleared.
 fn value_from(file: &[u8], from: usize, len: u32) -> u32
     requires { ⌜ (from + prefixBytes len ≤ length (now file)) × (len ≤ 32) ⌝ }
-    ensures { λ r. ⌜ r ≡ valueFrom 32 (now (file .entry)) from len ⌝ }
+    ensures { λ r. ⌜ r ≡ first 32 (valueFrom 32 (now (file .entry)) from len) len ⌝ }
 {
-    let k = prefix_bytes(len);
-    let gap = 32 - 8 * k;
-    // Four bytes at once where there are so many, and those past the prefix shifted out: no loop whose end must be guessed.
+    // Four bytes at once where there are so many, and those past the prefix cleared too: no loop whose end must be guessed.
     if from + 4 <= file.len() {
-        let all = number_at(file, from, 4);
-        return ((all >> gap) << gap) as u32;
+        return cleared(number_at(file, from, 4), len);
     }
+    let k = prefix_bytes(len);
     let high = number_at(file, from, k);
-    (high << gap) as u32
+    cleared(high << (32 - 8 * k), len)
 }
 
 // The port from its two bytes.
@@ -90,23 +95,15 @@ fn port_from(file: &[u8], from: usize) -> u32
     number_at(file, from, 2) as u32
 }
 
-// What becomes of a route with bits set past its length: it stays as it is, and is not fine. Nothing else decides it.
-fn spare(route: Route) -> Spared
-    ensures { λ r. ⌜ r ≡ spare 32 route ⌝ }
-{
-    let fine = Prefix::new(route.value, route.len).is_clear();
-    Spared { route, fine }
-}
-
 // The route at an offset, where a whole one stands.
-pub(crate) fn read_at(file: &[u8], at: usize) -> Spared
+pub(crate) fn read_at(file: &[u8], at: usize) -> Route
     requires { ⌜ Entire 32 (now file) at ⌝ }
     ensures { λ r. ⌜ r ≡ readAt 32 (now (file .entry)) at ⌝ }
 {
     let len = length_at(file, at);
     let value = value_from(file, at + 1, len);
     let port = port_from(file, at + 1 + prefix_bytes(len));
-    spare(Route { value, len, port })
+    Route { value, len, port }
 }
 
 // What keeps route i from being read, 0 if nothing does: 8, it is one too many; 4, its length is above 32; 3, it is cut.
@@ -128,19 +125,14 @@ fn frame_fault(file: &[u8], i: usize, at: usize) -> u32
     }
 }
 
-// What is wrong with a route that was read, 0 if nothing is: 5, bits past its length; 6, its port; 7, not above the one before.
-fn content_fault(x: Spared, rises: bool) -> u32
-    ensures { λ r. ⌜ r ≡ contentFault x rises ⌝ }
+// What is wrong with a route that was read, 0 if nothing is: 6, its port; 7, not above the one before.
+fn content_fault(route: Route, rises: bool) -> u32
+    ensures { λ r. ⌜ r ≡ contentFault route rises ⌝ }
 {
-    if x.fine {
-        let route = x.route;
-        if is_port(route.port) {
-            if rises { 0 } else { NOT_ABOVE }
-        } else {
-            WRONG_PORT
-        }
+    if is_port(route.port) {
+        if rises { 0 } else { NOT_ABOVE }
     } else {
-        SPARE_BITS
+        WRONG_PORT
     }
 }
 
@@ -162,9 +154,8 @@ pub(crate) fn step_at(file: &[u8], c: Cursor) -> Step
     if frame != 0 {
         return Step::Refused(Answer::refused(frame, at as u32));
     }
-    let x = read_at(file, at);
-    let r = x.route;
-    let fault = content_fault(x, rises_after(c, r));
+    let r = read_at(file, at);
+    let fault = content_fault(r, rises_after(c, r));
     if fault != 0 {
         return Step::Refused(Answer::refused(fault, at as u32));
     }

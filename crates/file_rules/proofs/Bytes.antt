@@ -1,11 +1,11 @@
 -- Numbers and their bytes, both ways. Assumes nothing.
 use mathlib.Core.Path.{_≡_, refl, sym, ap, ap₂, _∙_}
 use mathlib.Core.List.{List, [], _∷_, _++_}
-use Prim.Native.Nat.{ℕ, zero, suc, _+_, _*_, _/_, _%_, _^_, _≤_, _<_}
+use Prim.Native.Nat.{ℕ, zero, suc, _+_, _-_, _*_, _/_, _%_, _^_, _≤_, _<_}
 use native.Mathlib.Omega.{arith}
-use native.Mathlib.Nat.{add-mul, mul-assoc, mul-le-mul-right, suc-mul, mod-eq-of-lt}
-use lib.Pow.{pow-add, mod-pow-add, field, mod-mod-pow, high, low}
-use lib.ListN.{length, take, drop, length-append}
+use native.Mathlib.Nat.{add-mul, mul-assoc, mul-le-mul-right, suc-mul, mod-eq-of-lt, mod-le}
+use lib.Pow.{pow-add, split, shl-shr, shr-shr, mod-pow-add, field, mod-mod-pow, high, low}
+use lib.ListN.{length, getD, set, take, drop, length-append}
 use lib.Seq.{getD-drop}
 use Rattle.file_rules.specs.Bytes.{number, digits, Bytes}
 use Rattle.file_rules.specs.Theorems.{FewestBytes}
@@ -79,6 +79,34 @@ digits-number (b ∷ bs) h =
     sym (digits-mod n 0 x) ∙ ap (λ (y : ℕ). digits n (x % 2 ^ y)) z ∙ ap (digits n) (low b (8 * n) l)
     ∙ digits-number bs (λ j. h (suc j)) in
     ap₂ (λ (y : ℕ) (ys : List ℕ). y ∷ ys) (ap (λ (y : ℕ). y % 2 ^ 8) (high b (8 * n) l) ∙ mod-eq-of-lt (h 0)) d
+
+-- a number with its last s bits cleared
+
+-- the bits further up stay
+cleared-above : (x s t : ℕ) → s ≤ t → (x - x % 2 ^ s) / 2 ^ t ≡ x / 2 ^ t
+cleared-above x s t h =
+    let e : s + (t - s) ≡ t = omega arith in
+    let c : x - x % 2 ^ s ≡ x / 2 ^ s * 2 ^ s = omega (arith, split x s) in
+    rw (c, ← e, ← shr-shr (x / 2 ^ s * 2 ^ s) s (t - s), shl-shr (x / 2 ^ s) s, shr-shr x s (t - s))
+
+-- and so do the others among the last t
+cleared-within : (x s t : ℕ) → s ≤ t → (x - x % 2 ^ s) % 2 ^ t ≡ x % 2 ^ t - x % 2 ^ s
+cleared-within x s t h =
+    let d : (x - x % 2 ^ s) / 2 ^ t * 2 ^ t ≡ x / 2 ^ t * 2 ^ t = ap (λ (y : ℕ). y * 2 ^ t) (cleared-above x s t h) in
+    omega (arith, split (x - x % 2 ^ s) t, split x t, d, mod-le x (2 ^ s))
+
+-- so that of its bytes the last alone changes
+pub digits-cleared : (k s x : ℕ) → s ≤ 8 → digits (suc k) (x - x % 2 ^ s) ≡ set (digits (suc k) x) k (x % 2 ^ 8 - x % 2 ^ s)
+unfolding digits
+digits-cleared zero s x h = ap (λ (b : ℕ). b ∷ []) (omega (arith, cleared-within x s 8 h))
+digits-cleared (suc k) s x h =
+    ap₂ (λ (b : ℕ) (bs : List ℕ). b ∷ bs)
+    (ap (λ (y : ℕ). y % 2 ^ 8) (cleared-above x s (8 * suc k) (omega arith))) (digits-cleared k s x h)
+
+pub last-digit : (k x : ℕ) → getD (digits (suc k) x) k 0 ≡ x % 2 ^ 8
+unfolding digits
+last-digit zero x = omega arith
+last-digit (suc k) x = last-digit k x
 
 -- the bytes of a prefix
 pub fewest-bytes : FewestBytes

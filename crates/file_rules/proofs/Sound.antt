@@ -15,7 +15,7 @@ use Rattle.routes.specs.Bounds.{mostRoutes}
 use Rattle.routes.specs.Check.{isPort, above}
 use Rattle.routes.proofs.Faults.{orFault, unless-none}
 use Rattle.routes.proofs.First.{NoneBelow}
-use Rattle.file_rules.specs.File.{headSize, sizeFor, lenAt, readAt, placeOf, fileRoute}
+use Rattle.file_rules.specs.File.{headSize, sizeFor, lenAt, placeOf, fileRoute}
 use Rattle.file_rules.specs.Check.{frameFault, fileFault, Entire}
 
 -- places
@@ -60,7 +60,6 @@ frame-none w file i at rest e =
 pub record Sound (w : ℕ) (file : List ℕ) (i : ℕ) : Type 0 where
   pub few : i < mostRoutes
   pub entire : Entire w file (placeOf file i)
-  pub fine : readAt w file (placeOf file i) .fine ≡ true
   pub ported : isPort (fileRoute w file i .port) ≡ true
   pub rises : above (fileRoute w file) i ≡ true
 
@@ -68,37 +67,42 @@ pub fault-none : (w : ℕ) (file : List ℕ) (i : ℕ) → fileFault w file i �
 unfolding fileFault
 fault-none w file i e =
     let a = frame-none w file i (placeOf file i) _ e in
-    let b = unless-none (readAt w file (placeOf file i) .fine) 4 _ (a .2) in
-    let c = unless-none (isPort (fileRoute w file i .port)) 5 _ (b .1) in
-    let d = unless-none (above (fileRoute w file) i) 6 0 (c .1) in
-    record { few = a .0; entire = a .1; fine = b .0; ported = c .0; rises = d .0 }
+    let b = unless-none (isPort (fileRoute w file i .port)) 5 _ (a .2) in
+    let c = unless-none (above (fileRoute w file) i) 6 0 (b .1) in
+    record { few = a .0; entire = a .1; ported = b .0; rises = c .0 }
 
 pub none-fault : (w : ℕ) (file : List ℕ) (i : ℕ) → Sound w file i → fileFault w file i ≡ 0
 unfolding fileFault
 none-fault w file i ok =
     let f = ok .entire in
-    rw (lt-ltb i mostRoutes (ok .few), le-leb (lenAt file (placeOf file i)) w (f .short), le-leb (placeOf file i + sizeFor (lenAt file (placeOf file i))) (length file) (f .uncut), ok .fine, ok .ported, ok .rises)
+    rw (lt-ltb i mostRoutes (ok .few), le-leb (lenAt file (placeOf file i)) w (f .short), le-leb (placeOf file i + sizeFor (lenAt file (placeOf file i))) (length file) (f .uncut), ok .ported, ok .rises)
 
--- the faults of a route of a file are 3 to 8
-abbrev sixChecks : Bool → Bool → Bool → Bool → Bool → Bool → ℕ
-sixChecks a b c d e f =
-    unless a tooManyRoutes (unless b longPrefix (unless c wrongSize (unless d spareBits (unless e wrongPort (unless f notAbove 0)))))
+-- the faults of a route of a file are 3 to 8, and not 5
+pub record RouteFault (m : ℕ) : Type 0 where
+  pub low : wrongSize ≤ m
+  pub high : m ≤ tooManyRoutes
+  pub other : m ≡ spareBits → ⊥
 
-pub fault-range : (w : ℕ) (file : List ℕ) (i : ℕ)
-    → (fileFault w file i ≡ 0) ⊎ ((wrongSize ≤ fileFault w file i) × (fileFault w file i ≤ tooManyRoutes))
+abbrev fiveChecks : Bool → Bool → Bool → Bool → Bool → ℕ
+fiveChecks a b c d e =
+    unless a tooManyRoutes (unless b longPrefix (unless c wrongSize (unless d wrongPort (unless e notAbove 0))))
+
+pub fault-range : (w : ℕ) (file : List ℕ) (i : ℕ) → (fileFault w file i ≡ 0) ⊎ RouteFault (fileFault w file i)
 unfolding fileFault
 fault-range w file i =
     go (ltb i mostRoutes) (leb (lenAt file (placeOf file i)) w) (leb (placeOf file i + sizeFor (lenAt file (placeOf file i))) (length file))
-    (readAt w file (placeOf file i) .fine) (isPort (fileRoute w file i .port)) (above (fileRoute w file) i)
+    (isPort (fileRoute w file i .port)) (above (fileRoute w file) i)
   where
-    go : (a b c d e f : Bool) → (sixChecks a b c d e f ≡ 0) ⊎ ((wrongSize ≤ sixChecks a b c d e f) × (sixChecks a b c d e f ≤ tooManyRoutes))
-    go true true true true true true = inl refl
-    go true true true true true false = inr (omega arith)
-    go true true true true false f = inr (omega arith)
-    go true true true false e f = inr (omega arith)
-    go true true false d e f = inr (omega arith)
-    go true false c d e f = inr (omega arith)
-    go false b c d e f = inr (omega arith)
+    named : (m : ℕ) → wrongSize ≤ m → m ≤ tooManyRoutes → (m ≡ spareBits → ⊥) → (m ≡ 0) ⊎ RouteFault m
+    named m low high other = inr (record { low = low; high = high; other = other })
+
+    go : (a b c d e : Bool) → (fiveChecks a b c d e ≡ 0) ⊎ RouteFault (fiveChecks a b c d e)
+    go true true true true true = inl refl
+    go true true true true false = named notAbove (omega arith) (omega arith) (λ x. omega arith)
+    go true true true false e = named wrongPort (omega arith) (omega arith) (λ x. omega arith)
+    go true true false d e = named wrongSize (omega arith) (omega arith) (λ x. omega arith)
+    go true false c d e = named longPrefix (omega arith) (omega arith) (λ x. omega arith)
+    go false b c d e = named tooManyRoutes (omega arith) (omega arith) (λ x. omega arith)
 
 -- no route without a fault is longer than the longest prefix makes it
 pub place-le : (w : ℕ) (file : List ℕ) (i : ℕ) → NoneBelow (fileFault w file) i → placeOf file i ≤ headSize + i * sizeFor w

@@ -11,7 +11,7 @@ use lib.Seq.{take-at}
 use borrow.Author.Tests.{eq-eqb, ne-eqb, eqb-true, eqb-false, le-leb, lt-leb, leb-true, leb-false}
 use Rattle.lists.proofs.Tests.{way}
 use Rattle.promise.specs.Over.{over, Outcome, outcome}
-use Rattle.refusals.specs.Refusals.{noRoom, refused, accepted}
+use Rattle.refusals.specs.Refusals.{spareBits, noRoom, refused, accepted}
 use Rattle.routes.specs.Routes.{routeAt, routeCount, ValidList, listOfRoutes}
 use Rattle.routes.specs.Check.{listCheck, routesCheck, firstFault}
 use Rattle.refusals.specs.declared.Answer.{Answer}
@@ -21,11 +21,13 @@ use Rattle.file_rules.specs.Bytes.{number, digits}
 use Rattle.file_rules.specs.File.{fileRoute, headOf, fileOf}
 use Rattle.lists.specs.Numbered.{inOrder}
 use Rattle.file_rules.specs.Check.{headFault, checkFrom, fileCheck, Whole}
+use Rattle.file_rules.specs.Cleared.{clearedFile}
 use Rattle.file_rules.specs.Calls.{checkedThen, readFile, writeFile}
-use Rattle.file_rules.specs.Theorems.{ReadWritten, WriteRead, EmptyFile, RefusalWritesNothing}
+use Rattle.file_rules.specs.Theorems.{NeverSpare, ReadWritten, WriteRead, WriteReadSame, EmptyFile, RefusalWritesNothing}
 use Rattle.lists.proofs.InOrder.{in-order-same}
-use Rattle.file_rules.proofs.Walk.{check-whole, accepted-whole}
-use Rattle.file_rules.proofs.Whole.{file-valid, file-same}
+use Rattle.file_rules.proofs.Walk.{check-whole, accepted-whole, check-never-spare}
+use Rattle.file_rules.proofs.Cleared.{file-cleared, cleared-length, cleared-same}
+use Rattle.file_rules.proofs.Whole.{file-valid}
 use Rattle.file_rules.proofs.WriteRead.{file-back}
 use Rattle.file_rules.proofs.Words.{words-list}
 use Rattle.routes.proofs.Words.{length-list, count-list, route-in-list, list-same}
@@ -70,6 +72,24 @@ module _ (checked : Answer) (out : List ℕ) (count : ℕ) (lent : List ℕ) whe
       go (inl s) (inr t) =
           ap (λ (o : Outcome Answer). o .lent) (checked-short (eqb-true (checked .number) 0 s) (leb-false (length out) (length lent) t))
       go (inr s) t = ap (λ (o : Outcome Answer). o .lent) (checked-refused (eqb-false (checked .number) 0 s))
+
+-- a call that checks and then writes answers what its check answers, 9 or 0
+pub checked-number : (checked : Answer) (out : List ℕ) (count : ℕ) (lent : List ℕ) (m : ℕ) → checkedThen checked out count lent .answer .number ≡ m
+    → (m ≡ 0 → ⊥) → (m ≡ noRoom → ⊥) → checked .number ≡ m
+unfolding checkedThen
+checked-number checked out count lent m e done room = go (way (eqb (checked .number) 0)) (way (leb (length out) (length lent)))
+  where
+    go : (eqb (checked .number) 0 ≡ true) ⊎ (eqb (checked .number) 0 ≡ false)
+        → (leb (length out) (length lent) ≡ true) ⊎ (leb (length out) (length lent) ≡ false)
+        → checked .number ≡ m
+    go (inl s) (inl t) = absurd (done (sym (rw (s, t) at e)))
+    go (inl s) (inr t) = absurd (room (sym (rw (s, t) at e)))
+    go (inr s) t = rw s at e
+
+pub never-spare : NeverSpare
+unfolding readFile
+never-spare w file list e =
+    check-never-spare w file (checked-number (fileCheck w file) _ _ list spareBits e (λ z. omega (arith, z)) (λ z. omega (arith, z)))
 
 pub refusal-writes-nothing : RefusalWritesNothing
 unfolding readFile writeFile
@@ -133,7 +153,23 @@ write-read w file list lent wide bytes e room =
     let count : routeCount words ≡ n = count-list R n in
     let checked : listCheck w words ≡ accepted 0 =
     check-done w words fits .1 (omega (arith, length-list R n), rw count (valid-same w R (routeAt words) n same valid)) in
-    let out : fileOf w (routeAt words) (routeCount words) ≡ file =
-    rw count (ap (λ (b : List ℕ). headOf (length b) ++ b) (in-order-same _ _ _ n same) ∙ file-same w file n bytes ok) in
+    let out : fileOf w (routeAt words) (routeCount words) ≡ clearedFile file n =
+    rw count (ap (λ (b : List ℕ). headOf (length b) ++ b) (in-order-same _ _ _ n same) ∙ file-cleared w file n wide bytes ok) in
     rw (checked-done (fileCheck w file) words n list (d .0) (d .1), taken-out words list (n * 3) (length-list R n))
-    (write-done w words file lent (ap (λ (a : Answer). a .number) checked) out room)
+    (write-done w words (clearedFile file n) lent (ap (λ (a : Answer). a .number) checked) out (omega (arith, cleared-length file n))
+    ∙ ap (λ (k : ℕ). outcome (accepted k) (over (clearedFile file n) lent)) (cleared-length file n))
+
+-- the count that a read which is done answers
+read-count : (w : ℕ) (file list : List ℕ) → readFile w file list .answer .number ≡ 0 → Whole w file (readFile w file list .answer .count)
+unfolding readFile
+read-count w file list e =
+    let n = fileCheck w file .count in
+    let words = listOfRoutes (fileRoute w file) n in
+    let d = done-checked (fileCheck w file) words n list e in
+    rw (checked-done (fileCheck w file) words n list (d .0) (d .1)) (accepted-whole w file (d .0))
+
+pub write-read-same : WriteReadSame
+write-read-same w file list lent wide bytes e none room =
+    let n = readFile w file list .answer .count in
+    write-read w file list lent wide bytes e room
+    ∙ ap (λ (f : List ℕ). outcome (accepted (length file)) (over f lent)) (cleared-same w file n (read-count w file list e) .1 none)

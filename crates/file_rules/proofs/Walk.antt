@@ -1,7 +1,7 @@
 -- The check of a file refuses exactly in the listed cases: RULES, "Order of the checks". Assumes nothing.
 use mathlib.Core.Path.{_≡_, refl, sym, ap, _∙_}
 use mathlib.Core.Logic.{_⊎_, inl, inr, ⊎-elim}
-use mathlib.Core.Bool.{true, false}
+use mathlib.Core.Bool.{Bool, true, false}
 use mathlib.Core.List.{List}
 use Prim.Native.Nat.{ℕ, zero, suc, _+_, _-_, _≤_, _<_}
 use native.Mathlib.Omega.{arith}
@@ -11,7 +11,7 @@ use lib.ListN.{length, getD}
 use borrow.Author.Count.{below-none, below-more}
 use borrow.Author.Tests.{eq-eqb, ne-eqb, eqb-true, eqb-false, le-leb, lt-leb, leb-true, lt-ltb, le-ltb, ltb-true, ltb-false}
 use Rattle.lists.proofs.Tests.{way}
-use Rattle.refusals.specs.Refusals.{wrongSize, tooManyRoutes, refused, accepted}
+use Rattle.refusals.specs.Refusals.{shortFile, wrongVersion, wrongSize, spareBits, tooManyRoutes, refused, accepted, unless}
 use Rattle.refusals.specs.declared.Answer.{Answer}
 use Rattle.routes.proofs.Faults.{unless-none}
 use Rattle.routes.proofs.First.{NoneBelow}
@@ -183,5 +183,36 @@ file-headed w file headed = go (walked w file headed)
         let low = place-begun file (r .number) in
         ⊎-elim
         (λ (z : fileFault w file (r .number) ≡ 0). absurd (x .2 (sym (r .here) ∙ z)))
-        (λ b. inr (rw e (omega (arith, b .0, r .here), omega (arith, b .1, r .here), omega (arith, low, r .place), r .within)))
+        (λ b. inr (rw e (omega (arith, b .low, r .here), omega (arith, b .high, r .here), omega (arith, low, r .place), r .within)))
         (fault-range w file (r .number))
+
+-- no file is refused 5
+
+head-fault-small : (file : List ℕ) → headFault file ≤ wrongSize
+unfolding headFault
+head-fault-small file = go (leb headSize (length file)) (eqb (getD file 0 0) version) (eqb (statedSize file) (length file - headSize))
+  where
+    go : (a b c : Bool) → unless a shortFile (unless b wrongVersion (unless c wrongSize 0)) ≤ wrongSize
+    go true true true = omega arith
+    go true true false = omega arith
+    go true false c = omega arith
+    go false b c = omega arith
+
+headed-never-spare : (w : ℕ) (file : List ℕ) → Headed file → fileCheck w file .number ≡ spareBits → ⊥
+headed-never-spare w file headed e = go (walked w file headed)
+  where
+    go : Walked w file → ⊥
+    go (inl x) = omega (arith, e, ap numberOf (check-whole w file (x .0) (x .1)))
+    go (inr x) =
+        let r = x .3 in
+        let m : fileFault w file (r .number) ≡ spareBits =
+        r .here ∙ sym (ap numberOf (check-first w file (x .0) (x .1) headed (x .2) r)) ∙ e in
+        ⊎-elim (λ (z : fileFault w file (r .number) ≡ 0). x .2 (sym (r .here) ∙ z)) (λ b. b .other m) (fault-range w file (r .number))
+
+pub check-never-spare : (w : ℕ) (file : List ℕ) → fileCheck w file .number ≡ spareBits → ⊥
+check-never-spare w file e =
+    ⊎-elim
+    (λ (t : eqb (headFault file) 0 ≡ true). headed-never-spare w file (fault-headed file (eqb-true (headFault file) 0 t)) e)
+    (λ (t : eqb (headFault file) 0 ≡ false).
+    omega (arith, e, ap numberOf (check-unheaded w file (eqb-false (headFault file) 0 t)), head-fault-small file))
+    (way (eqb (headFault file) 0))

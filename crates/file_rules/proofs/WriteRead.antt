@@ -8,17 +8,17 @@ use lib.Pow.{shr-lt}
 use lib.ListN.{length, getD, drop, length-append}
 use lib.Seq.{take-at, drop-at, getD-at, drop-append-add, drop-drop}
 use Rattle.bits.proofs.Order.{zeros-longer}
-use Rattle.routes.specs.Routes.{ValidRoute, ValidList}
+use Rattle.bits.proofs.Prefix.{first-valid}
+use Rattle.routes.specs.Routes.{route, ValidRoute, ValidList}
 use Rattle.routes.specs.Check.{isPort, above}
 use Rattle.routes.specs.declared.Route.{Route}
 use Rattle.routes.proofs.Faults.{valid-faultless}
 use Rattle.routes.proofs.Check.{valid-above}
 use Rattle.file_rules.specs.Bytes.{number, digits}
-use Rattle.file_rules.specs.File.{headSize, prefixBytes, sizeFor, bitsAfter, lenAt, spare, readAt, placeOf, fileRoute, routeBytes, bodyOf, headOf, fileOf, FileWidth}
+use Rattle.file_rules.specs.File.{headSize, prefixBytes, sizeFor, bitsAfter, lenAt, cleared, readAt, placeOf, fileRoute, routeBytes, bodyOf, headOf, fileOf, FileWidth}
 use Rattle.lists.specs.Numbered.{inOrder}
 use Rattle.file_rules.specs.Check.{Headed, Whole}
 use Rattle.file_rules.specs.Theorems.{FileBack}
-use Rattle.file_rules.specs.declared.Spared.{Spared}
 use Rattle.file_rules.proofs.Bytes.{length-digits, number-digits}
 use Rattle.lists.proofs.InOrder.{length-in-order-le, in-order-split}
 use Rattle.file_rules.proofs.Sound.{Sound, none-fault}
@@ -74,10 +74,11 @@ module _ (w : ℕ) (wide : FileWidth w) (r : Route) (ok : ValidRoute w r) where
         sym (drop-drop k (at + 1) file) ∙ ap (drop k) after-len
         ∙ drop-at high (port ++ s .after) k (length-digits k (r .value / 2 ^ gap))
 
-    read-at : readAt w file at ≡ spare w r
+    read-at : readAt w file at ≡ r
     unfolding readAt
     read-at =
-        rw (len-written, after-len, take-at high (port ++ s .after) k (length-digits k (r .value / 2 ^ gap)), value-back, after-value, take-at port (s .after) 2 (length-digits 2 (r .port)), port-back)
+        let clear : cleared w r ≡ r = ap (λ (v : ℕ). route v (r .len) (r .port)) (first-valid w (r .value) (r .len) (ok .prefix)) in
+        rw (len-written, after-len, take-at high (port ++ s .after) k (length-digits k (r .value / 2 ^ gap)), value-back, after-value, take-at port (s .after) 2 (length-digits 2 (r .port)), port-back) clear
 
     uncut-written : at + sizeFor (lenAt file at) ≤ length file
     uncut-written =
@@ -121,11 +122,8 @@ module _ (w : ℕ) (wide : FileWidth w) (R : ℕ → Route) (n : ℕ) (ok : Vali
   stands : (i : ℕ) → i < n → Stands w (R i) file (placeOf file i)
   stands i h = rw (place-written i (omega arith)) (route-stands i h)
 
-  spared-written : (i : ℕ) → i < n → readAt w file (placeOf file i) ≡ spare w (R i)
-  spared-written i h = read-at w wide (R i) (ok .each i h) file (placeOf file i) (stands i h)
-
   route-written : (i : ℕ) → i < n → fileRoute w file i ≡ R i
-  route-written i h = ap (λ (x : Spared). x .route) (spared-written i h)
+  route-written i h = read-at w wide (R i) (ok .each i h) file (placeOf file i) (stands i h)
 
   above-written : (i : ℕ) → i < n → above (fileRoute w file) i ≡ above R i
   above-written zero h = refl
@@ -137,15 +135,13 @@ module _ (w : ℕ) (wide : FileWidth w) (R : ℕ → Route) (n : ℕ) (ok : Vali
   sound-written i h =
       let r = ok .each i h in
       let v = valid-faultless w R i r (valid-above w R n i ok h) in
-      let s = spared-written i h in
       record {
         few = omega (arith, ok .few);
         entire = record {
           short = rw (len-written w wide (R i) r file (placeOf file i) (stands i h)) (r .prefix .short);
           uncut = uncut-written w wide (R i) r file (placeOf file i) (stands i h);
         };
-        fine = ap (λ (x : Spared). x .fine) s ∙ v .zeros;
-        ported = ap (λ (x : Spared). isPort (x .route .port)) s ∙ v .ported;
+        ported = ap (λ (x : Route). isPort (x .port)) (route-written i h) ∙ v .ported;
         rises = above-written i h ∙ v .rises;
       }
 

@@ -5,12 +5,12 @@ use mathlib.Core.List.{List}
 use Prim.Native.Nat.{ℕ, zero, suc, _+_, _-_, _<_, _≤_}
 use lib.Dec.{eqb, leb, ltb}
 use lib.ListN.{length, getD}
-use Rattle.refusals.specs.Refusals.{shortFile, wrongVersion, wrongSize, longPrefix, spareBits, wrongPort, notAbove, tooManyRoutes, refused, accepted, unless}
+use Rattle.refusals.specs.Refusals.{shortFile, wrongVersion, wrongSize, longPrefix, wrongPort, notAbove, tooManyRoutes, refused, accepted, unless}
 use Rattle.routes.specs.Bounds.{mostRoutes}
 use Rattle.routes.specs.Check.{isPort, above}
 use Rattle.refusals.specs.declared.Answer.{Answer}
 use Rattle.file_rules.specs.File.{version, headSize, statedSize, sizeFor, lenAt, readAt, placeOf, fileRoute}
-use Rattle.file_rules.specs.declared.Spared.{Spared}
+use Rattle.routes.specs.declared.Route.{Route}
 
 -- "1, 2, 3 (size)"
 unfoldable pub headFault : List ℕ → ℕ
@@ -26,9 +26,9 @@ frameFault w file i at rest =
     (unless (leb (lenAt file at) w) longPrefix
     (unless (leb (at + sizeFor (lenAt file at)) (length file)) wrongSize rest))
 
--- "5, 6, 7" on what was read
-abbrev pub contentFault : Spared → Bool → ℕ
-contentFault x rises = unless (x .fine) spareBits (unless (isPort (x .route .port)) wrongPort (unless rises notAbove 0))
+-- "6, 7" on what was read
+abbrev pub contentFault : Route → Bool → ℕ
+contentFault r rises = unless (isPort (r .port)) wrongPort (unless rises notAbove 0)
 
 -- the first fault of route i, 0 if it has none
 unfoldable pub fileFault : ℕ → List ℕ → ℕ → ℕ

@@ -4,11 +4,10 @@ use mathlib.Core.Path.{_≡_}
 use mathlib.Core.List.{List, [], _∷_, _++_}
 use Prim.Native.Nat.{ℕ, zero, suc, _+_, _-_, _*_, _/_, _^_, _<_, _%_, _≤_}
 use lib.ListN.{length, getD, take, drop}
-use Rattle.bits.specs.Prefix.{clear}
+use Rattle.bits.specs.Prefix.{first}
 use Rattle.routes.specs.Routes.{route}
 use Rattle.routes.specs.declared.Route.{Route}
 use Rattle.file_rules.specs.Bytes.{number, digits}
-use Rattle.file_rules.specs.declared.Spared.{Spared}
 use Rattle.lists.specs.Numbered.{inOrder}
 
 -- "Byte 0 is the version, 1."
@@ -59,14 +58,17 @@ valueFrom w file from len = number (take (prefixBytes len) (drop from file)) * 2
 abbrev pub portFrom : List ℕ → ℕ → ℕ
 portFrom file from = number (take 2 (drop from file))
 
--- "Unused low bits of the last prefix byte are zero": the one place that says what becomes of a route with such bits set
-abbrev pub spare : ℕ → Route → Spared
-spare w r = record { route = r; fine = clear w (r .value) (r .len) }
+-- the route as its bytes state it
+abbrev pub statedAt : ℕ → List ℕ → ℕ → Route
+statedAt w file at =
+    route (valueFrom w file (at + 1) (lenAt file at)) (lenAt file at) (portFrom file (at + 1 + prefixBytes (lenAt file at)))
 
-unfoldable pub readAt : ℕ → List ℕ → ℕ → Spared
-readAt w file at =
-    spare w
-    (route (valueFrom w file (at + 1) (lenAt file at)) (lenAt file at) (portFrom file (at + 1 + prefixBytes (lenAt file at))))
+-- "The file reader is to clear those bits": the one place that says what becomes of a route with bits set past its length
+abbrev pub cleared : ℕ → Route → Route
+cleared w r = route (first w (r .value) (r .len)) (r .len) (r .port)
+
+unfoldable pub readAt : ℕ → List ℕ → ℕ → Route
+readAt w file at = cleared w (statedAt w file at)
 
 -- "Then the routes in list order": the offset of route i's first byte
 unfoldable pub placeOf : List ℕ → ℕ → ℕ
@@ -75,7 +77,7 @@ placeOf file (suc i) = placeOf file i + sizeFor (lenAt file (placeOf file i))
 
 -- route i of a file
 abbrev pub fileRoute : ℕ → List ℕ → ℕ → Route
-fileRoute w file i = readAt w file (placeOf file i) .route
+fileRoute w file i = readAt w file (placeOf file i)
 
 -- writing
 

@@ -2,5 +2,6 @@
 pub mod Bytes
 pub mod File
 pub mod Check
+pub mod Cleared
 pub mod Calls
 pub mod Theorems

@@ -6,12 +6,13 @@ use mathlib.Core.Logic.{_⊎_, _↔_}
 use Prim.Native.Nat.{ℕ, _-_, _*_, _≤_, _<_}
 use lib.ListN.{length, getD, take}
 use Rattle.promise.specs.Over.{over, outcome}
-use Rattle.refusals.specs.Refusals.{shortFile, wrongVersion, wrongSize, tooManyRoutes, refused, accepted}
+use Rattle.refusals.specs.Refusals.{shortFile, wrongVersion, wrongSize, spareBits, tooManyRoutes, refused, accepted}
 use Rattle.routes.specs.Routes.{routeCount, ValidList, Words}
 use Rattle.routes.specs.declared.Route.{Route}
 use Rattle.file_rules.specs.Bytes.{Bytes}
 use Rattle.file_rules.specs.File.{version, headSize, statedSize, prefixBytes, fileRoute, fileOf, FileWidth}
 use Rattle.file_rules.specs.Check.{fileCheck, Headed, FirstRoute, Whole}
+use Rattle.file_rules.specs.Cleared.{clearedFile, SpareZero}
 use Rattle.file_rules.specs.Calls.{readFile, writeFile}
 
 -- "The prefix takes as few bytes as hold (length) bits": they hold them, and no fewer do
@@ -44,6 +45,10 @@ FileHeaded =
     ⊎ ((wrongSize ≤ fileCheck w file .number) × (fileCheck w file .number ≤ tooManyRoutes)
     × (headSize ≤ fileCheck w file .place) × (fileCheck w file .place < length file))
 
+-- "5 no longer arises from a file", whatever its bytes and the list lent
+abbrev pub NeverSpare : Type 0
+NeverSpare = (w : ℕ) (file list : List ℕ) → readFile w file list .answer .number ≡ spareBits → ⊥
+
 -- the routes of an accepted file are a valid list
 abbrev pub FileValid : Type 0
 FileValid =
@@ -55,9 +60,24 @@ FileBack =
     (w : ℕ) (R : ℕ → Route) (n : ℕ) → FileWidth w → ValidList w R n
     → Whole w (fileOf w R n) n × ((i : ℕ) → i < n → fileRoute w (fileOf w R n) i ≡ R i)
 
--- an accepted file is that of its routes
+-- the file of an accepted file's routes is that file with its spare bits cleared
+abbrev pub FileCleared : Type 0
+FileCleared =
+    (w : ℕ) (file : List ℕ) (n : ℕ) → FileWidth w → Bytes file → Whole w file n → fileOf w (fileRoute w file) n ≡ clearedFile file n
+
+-- which has as many bytes
+abbrev pub ClearedLength : Type 0
+ClearedLength = (file : List ℕ) (n : ℕ) → length (clearedFile file n) ≡ length file
+
+-- and is the file itself exactly where they were zero
+abbrev pub ClearedSame : Type 0
+ClearedSame = (w : ℕ) (file : List ℕ) (n : ℕ) → Whole w file n → (clearedFile file n ≡ file) ↔ SpareZero file n
+
+-- so an accepted file without spare bits is that of its routes
 abbrev pub FileSame : Type 0
-FileSame = (w : ℕ) (file : List ℕ) (n : ℕ) → Bytes file → Whole w file n → fileOf w (fileRoute w file) n ≡ file
+FileSame =
+    (w : ℕ) (file : List ℕ) (n : ℕ) → FileWidth w → Bytes file → Whole w file n → SpareZero file n
+    → fileOf w (fileRoute w file) n ≡ file
 
 -- "Reading a written file returns the same routes": their words, all of them, and their number
 abbrev pub ReadWritten : Type 0
@@ -67,11 +87,19 @@ ReadWritten =
     → readFile w (take (writeFile w list file .answer .count) (writeFile w list file .lent)) lent
     ≡ outcome (accepted (routeCount list)) (over list lent)
 
--- "writing what was read returns the same bytes", all of them, and their number
+-- "others come back with them cleared": writing what was read returns all the bytes and their number, with the spare bits cleared
 abbrev pub WriteRead : Type 0
 WriteRead =
     (w : ℕ) (file list lent : List ℕ) → FileWidth w → Bytes file
     → readFile w file list .answer .number ≡ 0 → length file ≤ length lent
+    → writeFile w (take (readFile w file list .answer .count * 3) (readFile w file list .lent)) lent
+    ≡ outcome (accepted (length file)) (over (clearedFile file (readFile w file list .answer .count)) lent)
+
+-- "return of the same bytes then holds for files whose spare bits are zero"
+abbrev pub WriteReadSame : Type 0
+WriteReadSame =
+    (w : ℕ) (file list lent : List ℕ) → FileWidth w → Bytes file
+    → readFile w file list .answer .number ≡ 0 → SpareZero file (readFile w file list .answer .count) → length file ≤ length lent
     → writeFile w (take (readFile w file list .answer .count * 3) (readFile w file list .lent)) lent
     ≡ outcome (accepted (length file)) (over file lent)
 

@@ -1,18 +1,11 @@
 // The route file: definitions and laws over the width, and what the reader's and the writer's code share.
 ghost use Rattle.file_rules.specs.File.{BytesFor, RouteBytes};
-use routes::Route;
 
 // Byte 0 is the version, 1.
 pub const VERSION: u8 = 1;
 
 // The version byte and the four of the size come before the routes.
 pub const HEAD_SIZE: usize = 5;
-
-// A route as the reader takes it, and whether its spare bits, those past its length, let it pass.
-pub struct Spared {
-    pub route: Route,
-    pub fine: bool,
-}
 
 // The fewest bytes that hold that many bits: none for a prefix of length 0.
 pub fn prefix_bytes(len: u32) -> usize

@@ -10,10 +10,10 @@ use std::fmt::{self, Debug};
 ///
 /// # Errors
 ///
-/// Of every function that gives this: the first call on which they differ, and nothing else.
+/// Of every function that gives this: the first call on which they differ, or that both get wrong, and nothing else.
 pub type Compared<T> = Result<T, Difference>;
 
-/// A call on which the two libraries differ.
+/// A call on which the two libraries differ, or whose output is not what the rules say.
 #[derive(Debug)]
 pub struct Difference {
     call: &'static str,
@@ -21,17 +21,21 @@ pub struct Difference {
     what: String,
 }
 
-/// A large input is not printed whole: the seed makes it again.
-const ARGUMENTS_LAST: usize = 400;
+/// A large input or output is not printed whole: the seed makes it again.
+const SHOWN_LAST: usize = 400;
+
+fn shown(value: &impl Debug) -> String {
+    let mut text = format!("{value:?}");
+    if text.len() > SHOWN_LAST {
+        text.truncate(SHOWN_LAST);
+        text += " ..";
+    }
+    text
+}
 
 impl Difference {
     fn new(call: &'static str, argument: &impl Debug, what: String) -> Difference {
-        let mut arguments = format!("{argument:?}");
-        if arguments.len() > ARGUMENTS_LAST {
-            arguments.truncate(ARGUMENTS_LAST);
-            arguments += " ..";
-        }
-        Difference { call, arguments, what }
+        Difference { call, arguments: shown(argument), what }
     }
 }
 
@@ -107,6 +111,19 @@ impl<'a> Checker<'a> {
             (library.file_write)(list.all(), file.all_mut())
         })?;
         Ok((answer, file.all().to_vec()))
+    }
+
+    /// Reads a file and writes what was read: what comes back is to be the bytes expected, which no library made.
+    pub fn file_back(&mut self, file: &[u8], expected: &[u8]) -> Compared<()> {
+        // A route takes three bytes at least and three words, so as many words as bytes are room enough.
+        let (read, list) = self.file_read(file, file.len())?;
+        let (written, back) = self.file_write(&list[..3 * read.answer[1] as usize], file.len())?;
+        let back = &back[..written.answer[1] as usize];
+        if back != expected {
+            let what = format!("came back as {}, and is to come back as {}", shown(&back), shown(&expected));
+            return Err(Difference::new("file_write", &file, what));
+        }
+        Ok(())
     }
 
     pub fn list_check(&mut self, list: &[u32]) -> Compared<Answer<1>> {

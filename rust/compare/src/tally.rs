@@ -22,6 +22,15 @@ impl Tally {
         self.calls.values().map(|numbers| numbers[number]).sum()
     }
 
+    /// How often this number was answered by this call.
+    ///
+    /// # Panics
+    ///
+    /// Where the call was never made: then 0 would say nothing.
+    pub fn of_call(&self, call: &str, number: usize) -> u64 {
+        self.calls[call][number]
+    }
+
     pub fn total(&self) -> u64 {
         (0..NUMBERS).map(|number| self.of_number(number)).sum()
     }

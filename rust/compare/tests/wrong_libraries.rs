@@ -2,7 +2,7 @@
 
 use compare::{scenarios, Checker, Compared, Library, REFERENCE};
 use reference::Answer;
-use workload::Random;
+use workload::{clear_spare_bits, Random};
 
 /// The first difference that the scenarios find within a few seeds.
 fn difference(wrong: &Library) -> Option<String> {
@@ -35,6 +35,72 @@ fn a_word_past_the_output_is_told() {
                     list[end] = 0;
                 }
                 answer
+            },
+            ..REFERENCE
+        },
+    );
+}
+
+/// The prefixes of an accepted file as its bytes state them, spare bits and all.
+fn stated(file: &[u8]) -> Vec<(u32, u8)> {
+    let mut stated = Vec::new();
+    let mut rest = &file[5..];
+    while let [length, after @ ..] = rest {
+        let (prefix, port_and_on) = after.split_at(usize::from(length.div_ceil(8)));
+        let mut value = [0; 4];
+        value[..prefix.len()].copy_from_slice(prefix);
+        stated.push((u32::from_be_bytes(value), *length));
+        rest = &port_and_on[2..];
+    }
+    stated
+}
+
+#[test]
+fn spare_bits_that_are_refused_are_told() {
+    assert_told(
+        "file_read",
+        Library {
+            file_read: |file, list| {
+                let mut cleared = file.to_vec();
+                clear_spare_bits(&mut cleared);
+                if cleared != file {
+                    return Answer { number: 5, answer: [5, 0] };
+                }
+                reference::file_read(file, list)
+            },
+            ..REFERENCE
+        },
+    );
+}
+
+#[test]
+fn spare_bits_that_are_kept_are_told() {
+    assert_told(
+        "file_read",
+        Library {
+            file_read: |file, list| {
+                let answer = reference::file_read(file, list);
+                if answer.number == 0 {
+                    stated(file).iter().zip(list.chunks_mut(3)).for_each(|((value, _), words)| words[0] = *value);
+                }
+                answer
+            },
+            ..REFERENCE
+        },
+    );
+}
+
+#[test]
+fn an_order_compared_before_clearing_is_told() {
+    assert_told(
+        "file_read",
+        Library {
+            file_read: |file, list| {
+                let answer = reference::file_read(file, &mut list.to_vec());
+                if answer.number == 0 && !stated(file).is_sorted() {
+                    return Answer { number: 7, answer: [5, 0] };
+                }
+                reference::file_read(file, list)
             },
             ..REFERENCE
         },

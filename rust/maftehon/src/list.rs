@@ -61,7 +61,17 @@ impl RouteList {
         RouteList::from_words(routes.iter().flat_map(|route| route.words()).collect())
     }
 
-    /// Reads a route file.
+    /// Reads a route file. Bits of an address past the length are cleared: [`RouteList::write`] gives the same bytes
+    /// where they are zero, and otherwise the file with them cleared.
+    ///
+    /// ```
+    /// use maftehon::{Refusal, RouteList};
+    ///
+    /// // 10.128.0.0/9 to port 7, with two of its seven spare bits set.
+    /// let list = RouteList::read(&[1, 0, 0, 0, 5, 9, 10, 0b1000_0011, 0, 7])?;
+    /// assert_eq!(list.write(), [1, 0, 0, 0, 5, 9, 10, 0b1000_0000, 0, 7]);
+    /// # Ok::<(), Refusal>(())
+    /// ```
     ///
     /// # Errors
     ///
@@ -74,9 +84,8 @@ impl RouteList {
     /// - 8, [`Refusal::TooManyRoutes`]: 4,096 routes stand before it.
     /// - 4, [`Refusal::LongPrefix`]: the length is above 32.
     /// - 3, [`Refusal::WrongSize`]: it runs past the end of the file.
-    /// - 5, [`Refusal::SpareBits`]: the address has bits set past the length.
     /// - 6, [`Refusal::WrongPort`]: the port is outside 1..4094.
-    /// - 7, [`Refusal::NotAbove`]: the route is not above the one before it.
+    /// - 7, [`Refusal::NotAbove`]: the route is not above the one before it, both with those bits cleared.
     pub fn read(file: &[u8]) -> Result<RouteList, Refusal> {
         // A route takes three bytes at least and three words, so as many words as bytes are room enough.
         let mut words = vec![0; file.len().min(ROUTES_LAST * ROUTE_WORDS)];

@@ -37,7 +37,7 @@ pub enum Refusal {
     WrongSize(Place),
     /// 4: a prefix length is above 32.
     LongPrefix(Place),
-    /// 5: bits are set past the prefix length.
+    /// 5: bits are set past the prefix length. In a file they are cleared, and are no fault.
     SpareBits(Place),
     /// 6: a port is outside 1..4094.
     WrongPort(Place),

@@ -4,6 +4,7 @@ use maftehon::{Route, RouteList};
 use reference::runs_text;
 use std::fs;
 use std::path::{Path, PathBuf};
+use workload::clear_spare_bits;
 
 const EXAMPLES: &str = concat!(env!("CARGO_MANIFEST_DIR"), "/../../examples");
 const REFUSED: &str = concat!(env!("CARGO_MANIFEST_DIR"), "/../../examples/refused");
@@ -28,13 +29,30 @@ fn list_of_text(path: &Path) -> RouteList {
     RouteList::from_routes(&routes).unwrap_or_else(|refusal| panic!("{}: {refusal}", path.display()))
 }
 
+/// The bytes of a file as it is written back: those of the file itself where no spare bits are set.
+fn cleared(bytes: &[u8]) -> Vec<u8> {
+    let mut cleared = bytes.to_vec();
+    clear_spare_bits(&mut cleared);
+    cleared
+}
+
 #[test]
 fn every_route_file_is_what_its_text_source_says() {
     let files = route_files(EXAMPLES);
     assert!(!files.is_empty());
     for file in files {
         let bytes = fs::read(&file).expect("the file can be read");
-        assert_eq!(list_of_text(&file.with_extension("txt")).write(), bytes, "{}", file.display());
+        let list = list_of_text(&file.with_extension("txt"));
+        assert_eq!(list.write(), cleared(&bytes), "{}", file.display());
+        assert_eq!(RouteList::read(&bytes), Ok(list), "{}", file.display());
+    }
+}
+
+#[test]
+fn only_the_controllers_file_has_spare_bits_set() {
+    for file in route_files(EXAMPLES) {
+        let bytes = fs::read(&file).expect("the file can be read");
+        assert_eq!(cleared(&bytes) != bytes, file.ends_with("controller.routes"), "{}", file.display());
     }
 }
 

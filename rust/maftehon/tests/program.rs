@@ -4,7 +4,7 @@ use compare::first_seed;
 use reference::{file_write, runs_text};
 use std::io::Write;
 use std::process::{Command, Stdio};
-use workload::{damage_file, full_length_list, list_of, Kind, Random};
+use workload::{damage_file, full_length_list, list_of, set_spare_bits, Kind, Random};
 
 const PROGRAM: &str = concat!(env!("CARGO_MANIFEST_DIR"), "/../../scripts/program");
 /// The most bytes of a file that the program shows.
@@ -60,6 +60,16 @@ fn damaged_files_have_the_page_of_the_reference() {
 fn whole_files_have_the_page_of_the_reference() {
     for seed in (0..100).map(|number| first_seed().wrapping_add(number)) {
         assert_page_is_the_references(&any_file(&mut Random::new(seed)), &format!("MAFTEHON_SEED={seed}"));
+    }
+}
+
+#[test]
+fn files_with_spare_bits_have_the_page_of_the_reference() {
+    for seed in (0..100).map(|number| first_seed().wrapping_add(number)) {
+        let mut random = Random::new(seed);
+        let mut file = any_file(&mut random);
+        set_spare_bits(&mut file, &mut random);
+        assert_page_is_the_references(&file, &format!("MAFTEHON_SEED={seed}"));
     }
 }
 

@@ -51,6 +51,16 @@ fn a_saved_table_and_a_written_file_come_back() {
 }
 
 #[test]
+fn a_file_with_spare_bits_is_read_without_them() {
+    // 10.128.0.0/9 to port 7, with all seven spare bits set.
+    let list = RouteList::read(&[1, 0, 0, 0, 5, 9, 10, 0xFF, 0, 7]).expect("no fault");
+    assert_eq!(Ok(list.clone()), RouteList::from_words(vec![0x0A80_0000, 9, 7]));
+    assert_eq!(list.write(), [1, 0, 0, 0, 5, 9, 10, 0x80, 0, 7]);
+    // The same as a list is refused.
+    assert_eq!(RouteList::from_words(vec![0x0AFF_0000, 9, 7]), Err(Refusal::SpareBits(Place::Route(0))));
+}
+
+#[test]
 fn the_empty_list_has_one_run_and_an_image_of_one_node() {
     let list = RouteList::default();
     assert_eq!(list.runs().len(), 1);

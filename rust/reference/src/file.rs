@@ -1,7 +1,7 @@
 //! The route file, reader and writer: rules, "The route file".
 
 use crate::list::{check_above, list_of, routes_of, ROUTES_LAST};
-use crate::prefix::{check_length, Route};
+use crate::prefix::{check_length, cleared, Route};
 use crate::refusal::{refuse, write_out, Answer, Refusal, SHORT_FILE, TOO_MANY_ROUTES, WRONG_SIZE, WRONG_VERSION};
 
 const VERSION: u8 = 1;
@@ -9,7 +9,7 @@ const VERSION: u8 = 1;
 const HEAD_BYTES: usize = 5;
 const PORT_BYTES: usize = 2;
 
-/// Reads a file into a list: 1, 2, 3 at place 0; 8, 4, 3, 5, 6, 7 at the route's first byte; last 9.
+/// Reads a file into a list: 1, 2, 3 at place 0; 8, 4, 3, 6, 7 at the route's first byte; last 9.
 /// Answer: place, routes.
 pub fn file_read(file: &[u8], list: &mut [u32]) -> Answer<2> {
     Answer::of(read_into(file, list), [0])
@@ -73,7 +73,7 @@ fn read_route(file: &[u8], at: usize) -> Result<(Route, usize), Refusal> {
     if next > file.len() {
         return refuse(WRONG_SIZE, place);
     }
-    let value = value_of(&file[at + 1..port_at]);
+    let value = value_of(&file[at + 1..port_at], length);
     let port = u16::from_be_bytes([file[port_at], file[port_at + 1]]);
     let route = Route::checked(value, length, u32::from(port), place)?;
     Ok((route, next))
@@ -84,11 +84,12 @@ fn prefix_bytes(length: u32) -> usize {
     length.div_ceil(8) as usize
 }
 
-/// A prefix value whose first bytes are given and whose other bytes are zero.
-fn value_of(first: &[u8]) -> u32 {
+/// A prefix value whose first bytes are given and whose other bytes are zero. A file may have any bits past the length
+/// in the last byte: they say nothing, so they are cleared before the order is looked at, and 5 does not arise.
+fn value_of(first: &[u8], length: u32) -> u32 {
     let mut bytes = [0; 4];
     bytes[..first.len()].copy_from_slice(first);
-    u32::from_be_bytes(bytes)
+    cleared(u32::from_be_bytes(bytes), length)
 }
 
 fn file_of(routes: &[Route]) -> Vec<u8> {

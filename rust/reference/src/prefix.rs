@@ -29,6 +29,11 @@ fn first_bits(address: u32, count: u32) -> u64 {
     u64::from(address) >> (WIDTH - count)
 }
 
+/// The value with its bits from the length on made zero.
+pub(crate) fn cleared(value: u32, length: u32) -> u32 {
+    (first_bits(value, length) << (WIDTH - length)) as u32
+}
+
 /// Bit 0 is the most significant.
 pub fn bit(address: u32, index: u32) -> usize {
     (address >> (WIDTH - 1 - index) & 1) as usize
@@ -57,7 +62,7 @@ impl Prefix {
     /// 4 for a length above 32, then 5 for bits past the length, both at `place`.
     pub fn checked(value: u32, length: u32, place: u32) -> Result<Prefix, Refusal> {
         check_length(length, place)?;
-        if first_bits(value, length) << (WIDTH - length) != u64::from(value) {
+        if cleared(value, length) != value {
             return refuse(SPARE_BITS, place);
         }
         Ok(Prefix { value, length })

@@ -2,6 +2,7 @@
 //! pass for it, parts exchanged, ends cut off.
 
 use crate::random::Random;
+use crate::spare::{set_spare_bits, shorten_prefix};
 
 const ROUTE_WORDS: usize = 3;
 const ROW_WORDS: usize = 5;
@@ -29,20 +30,23 @@ pub fn damage_list(list: &mut Vec<u32>, random: &mut Random) {
     }
 }
 
-/// Damages a file in one place, or cuts it, or makes it longer; sometimes the stated size follows.
+/// Damages a file in one place, or cuts it, or makes it longer; sometimes the stated size follows. Spare bits alone do
+/// no harm; with other damage they may hide that the routes do not rise.
 pub fn damage_file(file: &mut Vec<u8>, random: &mut Random) {
     if file.is_empty() {
         file.push(1);
         return;
     }
     let [at, other] = [random.index(file.len()), random.index(file.len())];
-    match random.below(7) {
+    match random.below(9) {
         0 => file[at] ^= 1 << random.below(8),
         1 => file[at] = random.pick(&[0, 1, 15, 16, 32, 33, 255]),
         2 => file.swap(at, other),
         3 => file.truncate(at),
         4 => file.extend((0..=random.below(4)).map(|_| random.word() as u8)),
         5 => file.drain(at.min(other)..at.max(other)).for_each(drop),
+        6 => set_spare_bits(file, random),
+        7 => shorten_prefix(file, random),
         _ => file[0] = random.pick(&[0, 2, 255]),
     }
     if random.below(2) == 0 {

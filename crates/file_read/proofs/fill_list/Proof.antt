@@ -31,11 +31,11 @@ route-size-requires c κs = search needs
 
 add-at : tie.Need-add-at Inv-loop μ-loop
 add-at c =
-    let x = c .before .before .before .before .before .before in
-    let l = x .before .before in
+    let r = c .before .before .before .before .before in
+    let l = r .before .before in
     let s = l .before .before .before in
     let a = s .args in
-    omega (arith, filled-next 32 (a .file .now) (a .list .now) (a .n) (s .pre) _ _ _ (l .loop .inv) (x .before .loop-test .taken) _ _ (x .read-at .ensures) (c .route-size .ensures .is))
+    omega (arith, filled-next 32 (a .file .now) (a .list .now) (a .n) (s .pre) _ _ _ (l .loop .inv) (r .before .loop-test .taken) _ _ (r .read-at .ensures) (c .route-size .ensures .is))
 
 add-i : tie.Need-add-i Inv-loop μ-loop
 add-i c = omega arith
@@ -46,11 +46,11 @@ loop-less c = omega arith
 loop-again : tie.Need-loop-again Inv-loop μ-loop
 loop-again c =
     let p = c .before .before .before in
-    let x = p .before .before .before in
-    let l = x .before .before in
+    let r = p .before .before in
+    let l = r .before .before in
     let s = l .before .before .before in
     let a = s .args in
-    filled-more 32 (a .file .now) (a .list .now) (a .n) (s .pre) _ _ _ (l .loop .inv) (x .before .loop-test .taken) _ _ _ (x .read-at .ensures) (p .store-route .ensures) (c .route-size .ensures .is)
+    filled-more 32 (a .file .now) (a .list .now) (a .n) (s .pre) _ _ _ (l .loop .inv) (r .before .loop-test .taken) _ _ _ (r .read-at .ensures) (p .store-route .ensures) (c .route-size .ensures .is)
 
 same-length : tie.Need-same-length Inv-loop μ-loop
 same-length c = c .before .loop .inv .same

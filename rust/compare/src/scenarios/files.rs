@@ -1,8 +1,8 @@
-//! Route files: written, read back, damaged, and noise.
+//! Route files: written, read back, with spare bits set, damaged, and noise.
 
 use super::{any_set, rooms, some_damage};
 use crate::checker::{Checker, Compared};
-use workload::{damage_file, list_of, Held, Random};
+use workload::{clear_spare_bits, damage_file, list_of, set_spare_bits, shorten_prefix, Held, Random};
 
 /// Enough for every route of a file.
 fn most_bytes(held: &Held) -> usize {
@@ -26,6 +26,23 @@ pub fn valid_files(checker: &mut Checker, random: &mut Random, most: usize) -> C
     for room in rooms(list.len()) {
         checker.file_read(&file, room)?;
     }
+    Ok(())
+}
+
+/// Spare bits set in a file: it is read with every room, and comes back with them cleared. With shorter prefixes, whose
+/// bits are spare then, it may be refused.
+pub fn spared_files(checker: &mut Checker, random: &mut Random, most: usize) -> Compared<()> {
+    let held = any_set(random, most);
+    let mut file = file_of(checker, &held)?;
+    set_spare_bits(&mut file, random);
+    for room in rooms(3 * held.len()) {
+        checker.file_read(&file, room)?;
+    }
+    let mut cleared = file.clone();
+    clear_spare_bits(&mut cleared);
+    checker.file_back(&file, &cleared)?;
+    some_damage(random, |random| shorten_prefix(&mut file, random));
+    checker.file_read(&file, 3 * held.len())?;
     Ok(())
 }
 

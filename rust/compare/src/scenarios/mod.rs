@@ -6,7 +6,7 @@ mod images;
 mod lists;
 mod tables;
 
-pub use files::{damaged_files, noise_files, valid_files};
+pub use files::{damaged_files, noise_files, spared_files, valid_files};
 pub use histories::history;
 pub use images::{damaged_images, valid_images};
 pub use lists::{damaged_lists, valid_lists};
@@ -19,8 +19,9 @@ use workload::{Held, Kind, Random};
 pub type Scenario = fn(&mut Checker, &mut Random, usize) -> Compared<()>;
 
 /// Every scenario, with its name.
-pub const ALL: [(&str, Scenario); 11] = [
+pub const ALL: [(&str, Scenario); 12] = [
     ("valid files", valid_files),
+    ("spared files", spared_files),
     ("damaged files", damaged_files),
     ("noise files", noise_files),
     ("valid lists", valid_lists),

@@ -4,6 +4,7 @@ use crate::support::{
     done, first_bits_of, full_length_list, list_of, prefix, refused, Random, UNTOUCHED, UNTOUCHED_BYTE,
 };
 use reference::{file_read, file_write, list_check, table_announce, table_build, table_runs};
+use workload::clear_spare_bits;
 
 /// A file whose stated size is that of its body.
 pub fn file_with(body: &[u8]) -> Vec<u8> {
@@ -14,7 +15,7 @@ pub fn file_with(body: &[u8]) -> Vec<u8> {
 }
 
 /// The routes of a file; panics on a refusal.
-fn read(file: &[u8]) -> Vec<u32> {
+pub fn read(file: &[u8]) -> Vec<u32> {
     let mut list = vec![UNTOUCHED; 3 * 4096];
     let answer = file_read(file, &mut list);
     assert_eq!((answer.number, answer.answer[0]), (0, 0));
@@ -25,7 +26,7 @@ fn read(file: &[u8]) -> Vec<u32> {
 }
 
 /// The file of a list; panics on a refusal.
-fn written(list: &[u32]) -> Vec<u8> {
+pub fn written(list: &[u32]) -> Vec<u8> {
     let mut file = vec![UNTOUCHED_BYTE; 5 + 7 * 4096];
     let answer = file_write(list, &mut file);
     assert_eq!((answer.number, answer.answer[0]), (0, 0));
@@ -139,14 +140,15 @@ fn random_file(random: &mut Random) -> Vec<u8> {
 }
 
 #[test]
-fn an_accepted_file_is_written_back() {
+fn an_accepted_file_is_written_back_but_for_its_spare_bits() {
     let mut accepted = 0;
     for seed in 0..5000 {
-        let file = random_file(&mut Random::new(seed));
+        let mut file = random_file(&mut Random::new(seed));
         let mut list = [UNTOUCHED; 9];
         let answer = file_read(&file, &mut list);
         if answer.number == 0 {
             accepted += 1;
+            clear_spare_bits(&mut file);
             assert_eq!(written(&list[..3 * answer.answer[1] as usize]), file, "seed {seed}");
         } else {
             assert_eq!(list, [UNTOUCHED; 9], "seed {seed}");

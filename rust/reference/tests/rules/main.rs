@@ -10,5 +10,6 @@ mod refusals_of_image;
 mod refusals_of_list_and_file;
 mod refusals_of_table;
 mod runs_program;
+mod spare_bits;
 mod support;
 mod table_histories;

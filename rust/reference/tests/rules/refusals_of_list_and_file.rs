@@ -132,19 +132,19 @@ fn refused_files() -> Vec<(Vec<u8>, u32, u32)> {
         (file_with(&[0, 0, 1, 8, 10, 0]), 3, 8),
         (file_with(&[0, 0, 1, 16, 10]), 3, 8),
         (file_with(&[0, 0, 1, 0]), 3, 8),
-        // 4 comes before the cut, the cut before 5 and 6.
+        // 4 comes before the cut, the cut before 6.
         (file_with(&[0, 0, 1, 33]), 4, 8),
         (file_with(&[0, 0, 1, 255, 0, 0, 0, 0, 0, 1]), 4, 8),
         (file_with(&[0, 0, 1, 1, 0xFF, 0]), 3, 8),
-        (file_with(&[0, 0, 1, 7, 0x0B, 0, 1]), 5, 8),
-        (file_with(&[0, 0, 1, 31, 0, 0, 0, 1, 0, 1]), 5, 8),
-        (file_with(&[0, 0, 1, 7, 0x0B, 0, 0]), 5, 8),
         (file_with(&[0, 0, 1, 8, 10, 0, 0]), 6, 8),
         (file_with(&[0, 0, 1, 8, 10, 0x0F, 0xFF]), 6, 8),
         (file_with(&[8, 10, 0, 1, 8, 9, 0xFF, 0xFF]), 6, 9),
         (file_with(&[8, 10, 0, 1, 8, 10, 0, 2]), 7, 9),
         (file_with(&[8, 10, 0, 1, 7, 10, 0, 2]), 7, 9),
         (file_with(&[8, 10, 0, 1, 8, 9, 0, 2]), 7, 9),
+        // Spare bits are no fault, and 7 looks at what is left without them.
+        (file_with(&[0, 0, 1, 7, 0x0B, 0, 0]), 6, 8),
+        (file_with(&[8, 10, 0, 1, 7, 0x0B, 0, 2]), 7, 9),
         // The first route that is wrong decides.
         (file_with(&[8, 10, 0, 0, 33]), 6, 5),
     ]

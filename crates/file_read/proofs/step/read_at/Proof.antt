@@ -24,16 +24,13 @@ add-port-from-2 c = search needs
 port-from-requires : tie.Need-port-from-requires
 port-from-requires c κs = search needs
 
-spare-requires : tie.Need-spare-requires
-spare-requires c κs = search needs
-
 returns : tie.Need-returns
 returns c =
-    let k = c .before .before in
+    let k = c .before in
     let v = k .before in
     let l = v .before in
     let a = l .before .before .args in
-    read-is 32 (a .file .now) (a .at) _ _ _ _ _ (l .length-at .ensures .is) (k .prefix-bytes .ensures .is) (v .value-from .ensures) (c .before .port-from .ensures) (c .spare .ensures)
+    read-is 32 (a .file .now) (a .at) _ _ _ _ (l .length-at .ensures .is) (k .prefix-bytes .ensures .is) (v .value-from .ensures) (c .port-from .ensures)
 
 pub read-at-spec : {M : Type 1} → statement M
 read-at-spec =
@@ -46,5 +43,4 @@ read-at-spec =
     prefix-bytes-requires
     add-port-from-2
     port-from-requires
-    spare-requires
     returns)

@@ -40,19 +40,19 @@ returns-2 : tie.Need-returns-2
 returns-2 c =
     let f = c .before .before in
     let v = f .before in
-    let x = v .before .before in
-    let s = x .before .before in
+    let r = v .before in
+    let s = r .before .before in
     let a = s .before .before .args in
-    step-faulty 32 (a .file .now) (a .c) _ (s .frame-fault .ensures) (x .before .if1 .left) _ (x .read-at .ensures) _ (v .rises-after .ensures) _ (f .content-fault .ensures) _ (c .before .if2 .taken) (c .refused2 .ensures)
+    step-faulty 32 (a .file .now) (a .c) _ (s .frame-fault .ensures) (r .before .if1 .left) _ (r .read-at .ensures) _ (v .rises-after .ensures) _ (f .content-fault .ensures) _ (c .before .if2 .taken) (c .refused2 .ensures)
 
 route-size-requires : tie.Need-route-size-requires
 route-size-requires c κs = search needs
 
+add-t13 : tie.Need-add-t13
+add-t13 c = search needs
+
 add-t14 : tie.Need-add-t14
 add-t14 c = search needs
-
-add-t15 : tie.Need-add-t15
-add-t15 c = search needs
 
 prefix-requires : tie.Need-prefix-requires
 prefix-requires c κs = search needs
@@ -62,10 +62,10 @@ returns-3 c =
     let k = c .before .before in
     let f = k .before .before in
     let v = f .before in
-    let x = v .before .before in
-    let s = x .before .before in
+    let r = v .before in
+    let s = r .before .before in
     let a = s .before .before .args in
-    step-took 32 (a .file .now) (a .c) _ (s .frame-fault .ensures) (x .before .if1 .left) _ (x .read-at .ensures) _ (v .rises-after .ensures) _ (f .content-fault .ensures) (k .before .if2 .left) _ (k .route-size .ensures .is) _ (c .prefix .ensures)
+    step-took 32 (a .file .now) (a .c) _ (s .frame-fault .ensures) (r .before .if1 .left) _ (r .read-at .ensures) _ (v .rises-after .ensures) _ (f .content-fault .ensures) (k .before .if2 .left) _ (k .route-size .ensures .is) _ (c .prefix .ensures)
 
 pub step-at-spec : {M : Type 1} → statement M
 step-at-spec =
@@ -82,7 +82,7 @@ step-at-spec =
     refused-requires-2
     returns-2
     route-size-requires
+    add-t13
     add-t14
-    add-t15
     prefix-requires
     returns-3)

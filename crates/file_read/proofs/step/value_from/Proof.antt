@@ -1,12 +1,13 @@
-use Prim.Native.Nat.{ℕ, _/_, _-_, _*_, _%_, _^_, _≤_, _<_}
+use Prim.Native.Nat.{ℕ, _-_, _*_, _%_, _^_, _≤_, _<_}
 use mathlib.Core.Path.{_≡_, ap, _∙_}
 use mathlib.Core.List.{List}
 use native.Mathlib.Omega.{arith}
 use lib.ListN.{take, drop}
+use Rattle.bits.specs.Prefix.{first}
 use Rattle.file_rules.specs.Bytes.{number}
 use Rattle.file_rules.specs.File.{prefixBytes, valueFrom}
 use Rattle.file_read.specs.Needs.{NumberAt}
-use Rattle.file_read.proofs.Numbers.{front-is, shifted}
+use Rattle.file_read.proofs.Numbers.{front-cleared, shifted}
 use borrow.Author.Needs.{needs}
 use Rattle.file_read.proofs.step.value_from.Statement.{statement}
 use Rattle.file_read.proofs.step.value_from.Tie as tie
@@ -20,75 +21,67 @@ value-is file from len k x is fits n =
       omega (arith, s .0, s .1),
     )
 
-prefix-bytes-requires : tie.Need-prefix-bytes-requires
-prefix-bytes-requires c κs = search needs
-
-mul-gap : tie.Need-mul-gap
-mul-gap c = search needs
-
-sub-gap : tie.Need-sub-gap
-sub-gap c = search needs
-
 add-if1 : tie.Need-add-if1
 add-if1 c = search needs
 
 number-at-requires : tie.Need-number-at-requires
 number-at-requires c κs = search needs
 
-shr-result : tie.Need-shr-result
-shr-result c = search needs
-
-shl-result : tie.Need-shl-result
-shl-result c = search needs
-
-cast-result : tie.Need-cast-result
-cast-result c =
-    let k = c .before .before .prefix-bytes in
-    let a = c .before .before .before .before .args in
-    let n = front-is (a .file .now) (a .from) (λ i. omega (arith, c .before .before .before .shared-slice-known .given i)) (k .result) (c .number-at .result) (omega (arith, k .ensures .is))
-    (omega (arith, c .before .if1 .taken)) (c .number-at .ensures) in
-    omega (arith, value-is (a .file .now) (a .from) (a .len) (k .result) (c .number-at .result / 2 ^ (32 - 8 * k .result)) (k .ensures .is) (omega (arith, k .ensures .is)) n .1)
+cleared-requires : tie.Need-cleared-requires
+cleared-requires c κs = search needs
 
 returns : tie.Need-returns
 returns c =
-    let k = c .before .before .prefix-bytes in
-    let a = c .before .before .before .before .args in
-    let n = front-is (a .file .now) (a .from) (λ i. omega (arith, c .before .before .before .shared-slice-known .given i)) (k .result) (c .number-at .result) (omega (arith, k .ensures .is))
-    (omega (arith, c .before .if1 .taken)) (c .number-at .ensures) in
-    value-is (a .file .now) (a .from) (a .len) (k .result) (c .number-at .result / 2 ^ (32 - 8 * k .result)) (k .ensures .is) (omega (arith, k .ensures .is)) n .0
+    let n = c .before .number-at in
+    let s = c .before .before .before in
+    let a = s .before .args in
+    c .cleared .ensures
+    ∙ front-cleared (a .file .now) (a .from) (λ i. omega (arith, s .shared-slice-known .given i)) (a .len) (n .result)
+    (s .before .pre .1) (omega (arith, c .before .before .if1 .taken)) (n .ensures)
+
+prefix-bytes-requires : tie.Need-prefix-bytes-requires
+prefix-bytes-requires c κs = search needs
 
 number-at-requires-2 : tie.Need-number-at-requires-2
 number-at-requires-2 c κs = search needs
 
-shl-result-2 : tie.Need-shl-result-2
-shl-result-2 c = search needs
+mul-cleared : tie.Need-mul-cleared
+mul-cleared c = search needs
 
-cast-result-2 : tie.Need-cast-result-2
-cast-result-2 c =
-    let k = c .before .before .prefix-bytes in
-    let a = c .before .before .before .before .args in
-    omega (arith, value-is (a .file .now) (a .from) (a .len) (k .result) (c .number-at2 .result) (k .ensures .is) (omega (arith, k .ensures .is)) (c .number-at2 .ensures) .1)
+sub-cleared : tie.Need-sub-cleared
+sub-cleared c = search needs
+
+shl-cleared : tie.Need-shl-cleared
+shl-cleared c = search needs
+
+cleared-requires-2 : tie.Need-cleared-requires-2
+cleared-requires-2 c κs =
+    let k = c .before .prefix-bytes in
+    let s = c .before .before .before .before in
+    let a = s .args in
+    (value-is (a .file .now) (a .from) (a .len) (k .result) (c .number-at2 .result) (k .ensures .is) (omega (arith, k .ensures .is, s .pre .1)) (c .number-at2 .ensures) .1, s .pre .1)
 
 returns-2 : tie.Need-returns-2
 returns-2 c =
+    let n = c .before .number-at2 in
     let k = c .before .before .prefix-bytes in
-    let a = c .before .before .before .before .args in
-    value-is (a .file .now) (a .from) (a .len) (k .result) (c .number-at2 .result) (k .ensures .is) (omega (arith, k .ensures .is)) (c .number-at2 .ensures) .0
+    let s = c .before .before .before .before .before in
+    let a = s .args in
+    c .cleared2 .ensures
+    ∙ ap (λ (y : ℕ). first 32 y (a .len)) (value-is (a .file .now) (a .from) (a .len) (k .result) (n .result) (k .ensures .is) (omega (arith, k .ensures .is, s .pre .1)) (n .ensures) .0)
 
 pub value-from-spec : {M : Type 1} → statement M
 value-from-spec =
     tie.close
     (tie.spec
-    prefix-bytes-requires
-    mul-gap
-    sub-gap
     add-if1
     number-at-requires
-    shr-result
-    shl-result
-    cast-result
+    cleared-requires
     returns
+    prefix-bytes-requires
     number-at-requires-2
-    shl-result-2
-    cast-result-2
+    mul-cleared
+    sub-cleared
+    shl-cleared
+    cleared-requires-2
     returns-2)

@@ -65,7 +65,7 @@ fn length_at(file: &[u8], at: usize) -> u32
 }
 
 // The bytes of a value with all that is past the length cleared. Nothing else decides what becomes of spare bits.
-fn cleared(bytes: u64, len: u32) -> u32
+fn clear_past(bytes: u64, len: u32) -> u32
     requires { ⌜ (bytes < 2 ^ 32) × (len ≤ 32) ⌝ }
     ensures { λ r. ⌜ r ≡ first 32 bytes len ⌝ }
 {
@@ -80,11 +80,11 @@ fn value_from(file: &[u8], from: usize, len: u32) -> u32
 {
     // Four bytes at once where there are so many, and those past the prefix cleared too: no loop whose end must be guessed.
     if from + 4 <= file.len() {
-        return cleared(number_at(file, from, 4), len);
+        return clear_past(number_at(file, from, 4), len);
     }
     let k = prefix_bytes(len);
     let high = number_at(file, from, k);
-    cleared(high << (32 - 8 * k), len)
+    clear_past(high << (32 - 8 * k), len)
 }
 
 // The port from its two bytes.

@@ -27,15 +27,15 @@ add-if1 c = search needs
 number-at-requires : tie.Need-number-at-requires
 number-at-requires c κs = search needs
 
-cleared-requires : tie.Need-cleared-requires
-cleared-requires c κs = search needs
+clear-past-requires : tie.Need-clear-past-requires
+clear-past-requires c κs = search needs
 
 returns : tie.Need-returns
 returns c =
     let n = c .before .number-at in
     let s = c .before .before .before in
     let a = s .before .args in
-    c .cleared .ensures
+    c .clear-past .ensures
     ∙ front-cleared (a .file .now) (a .from) (λ i. omega (arith, s .shared-slice-known .given i)) (a .len) (n .result)
     (s .before .pre .1) (omega (arith, c .before .before .if1 .taken)) (n .ensures)
 
@@ -45,17 +45,17 @@ prefix-bytes-requires c κs = search needs
 number-at-requires-2 : tie.Need-number-at-requires-2
 number-at-requires-2 c κs = search needs
 
-mul-cleared : tie.Need-mul-cleared
-mul-cleared c = search needs
+mul-clear-past : tie.Need-mul-clear-past
+mul-clear-past c = search needs
 
-sub-cleared : tie.Need-sub-cleared
-sub-cleared c = search needs
+sub-clear-past : tie.Need-sub-clear-past
+sub-clear-past c = search needs
 
-shl-cleared : tie.Need-shl-cleared
-shl-cleared c = search needs
+shl-clear-past : tie.Need-shl-clear-past
+shl-clear-past c = search needs
 
-cleared-requires-2 : tie.Need-cleared-requires-2
-cleared-requires-2 c κs =
+clear-past-requires-2 : tie.Need-clear-past-requires-2
+clear-past-requires-2 c κs =
     let k = c .before .prefix-bytes in
     let s = c .before .before .before .before in
     let a = s .args in
@@ -67,7 +67,7 @@ returns-2 c =
     let k = c .before .before .prefix-bytes in
     let s = c .before .before .before .before .before in
     let a = s .args in
-    c .cleared2 .ensures
+    c .clear-past2 .ensures
     ∙ ap (λ (y : ℕ). first 32 y (a .len)) (value-is (a .file .now) (a .from) (a .len) (k .result) (n .result) (k .ensures .is) (omega (arith, k .ensures .is, s .pre .1)) (n .ensures) .0)
 
 pub value-from-spec : {M : Type 1} → statement M
@@ -76,12 +76,12 @@ value-from-spec =
     (tie.spec
     add-if1
     number-at-requires
-    cleared-requires
+    clear-past-requires
     returns
     prefix-bytes-requires
     number-at-requires-2
-    mul-cleared
-    sub-cleared
-    shl-cleared
-    cleared-requires-2
+    mul-clear-past
+    sub-clear-past
+    shl-clear-past
+    clear-past-requires-2
     returns-2)

@@ -1,8 +1,8 @@
 use native.Mathlib.Omega.{arith}
 use Rattle.file_read.proofs.Numbers.{cut}
 use borrow.Author.Needs.{needs}
-use Rattle.file_read.proofs.step.cleared.Statement.{statement}
-use Rattle.file_read.proofs.step.cleared.Tie as tie
+use Rattle.file_read.proofs.step.clear_past.Statement.{statement}
+use Rattle.file_read.proofs.step.clear_past.Tie as tie
 
 sub-past : tie.Need-sub-past
 sub-past c = search needs
@@ -22,5 +22,5 @@ cast-result c = let x = cut 32 (c .args .bytes) (c .args .len) (omega arith) (c 
 returns : tie.Need-returns
 returns c = cut 32 (c .args .bytes) (c .args .len) (omega arith) (c .pre .0) .0
 
-pub cleared-spec : {M : Type 1} → statement M
-cleared-spec = tie.close (tie.spec sub-past cast-past shr-result shl-result cast-result returns)
+pub clear-past-spec : {M : Type 1} → statement M
+clear-past-spec = tie.close (tie.spec sub-past cast-past shr-result shl-result cast-result returns)

@@ -1,5 +1,5 @@
-// Bench examples 9, 10 and 11 of the rules, built from their routes and looked up; builds that are refused; and images damaged in each
-// way that a lookup refuses. A build's line is `claim`, number, place, nodes, ports; a lookup's is `claim`, number, port, nodes read.
+// Bench examples 9, 10 and 11 of the rules, built from their routes and looked up, and builds that are refused. A build's line is
+// `claim`, number, place, nodes, ports; a lookup's is `claim`, number, port, nodes read.
 use image_build::build;
 use image_lookup::lookup;
 use libc::STDOUT_FILENO;
@@ -45,14 +45,14 @@ fn wide(x: u16) -> u32 {
     x as u32
 }
 
-// The bitmaps, the offsets or the leaf bases of all nodes lent: part 0, 1 or 2.
+// The bitmaps or the offsets of all nodes lent: part 0 or 1.
 fn show_nodes(claim: &[u8], nodes: &[u32], part: usize) {
     text(claim);
-    if part < 3 {
-        let count = nodes.len() / 3;
+    if part < 2 {
+        let count = nodes.len() / 2;
         let mut i: usize = 0;
         while i < count {
-            number(nodes[i * 3 + part]);
+            number(nodes[i * 2 + part]);
             i += 1;
         }
     }
@@ -90,7 +90,7 @@ fn built(claim: &[u8], stride: u32, list: &[u32], nodes: &mut [u32], ports: &mut
 }
 
 fn looked(claim: &[u8], stride: u32, address: u32) {
-    let mut nodes = [0u32; 18];
+    let mut nodes = [0u32; 12];
     let mut ports = [0u16; 10];
     build(stride, &seven(), &mut nodes, &mut ports);
     found(claim, lookup(stride, &nodes, &ports, address));
@@ -101,12 +101,11 @@ fn image_9(nodes: &mut [u32], ports: &mut [u16]) {
     built(b"example_9_is_built", 1, &seven(), nodes, ports);
     show_nodes(b"example_9_bitmaps", nodes, 0);
     show_nodes(b"example_9_offsets", nodes, 1);
-    show_nodes(b"example_9_leaf_bases", nodes, 2);
     show_ports(b"example_9_ports", ports);
 }
 
 fn example_9() {
-    let mut nodes = [77u32; 21];
+    let mut nodes = [77u32; 14];
     let mut ports = [77u16; 8];
     image_9(&mut nodes, &mut ports);
 }
@@ -125,12 +124,11 @@ fn image_10(nodes: &mut [u32], ports: &mut [u16]) {
     built(b"example_10_is_built", 2, &seven(), nodes, ports);
     show_nodes(b"example_10_bitmaps", nodes, 0);
     show_nodes(b"example_10_offsets", nodes, 1);
-    show_nodes(b"example_10_leaf_bases", nodes, 2);
     show_ports(b"example_10_ports", ports);
 }
 
 fn example_10() {
-    let mut nodes = [77u32; 9];
+    let mut nodes = [77u32; 6];
     let mut ports = [77u16; 10];
     image_10(&mut nodes, &mut ports);
 }
@@ -149,7 +147,6 @@ fn image_11(nodes: &mut [u32], ports: &mut [u16]) {
     built(b"example_11_is_built", 4, &none, nodes, ports);
     show_nodes(b"example_11_bitmap", nodes, 0);
     show_nodes(b"example_11_offset", nodes, 1);
-    show_nodes(b"example_11_leaf_base", nodes, 2);
     show_ports(b"example_11_ports", ports);
 }
 
@@ -162,7 +159,7 @@ fn addresses_11(nodes: &[u32], ports: &[u16]) {
 }
 
 fn example_11() {
-    let mut nodes = [77u32; 3];
+    let mut nodes = [77u32; 2];
     let mut ports = [77u16; 16];
     image_11(&mut nodes, &mut ports);
     addresses_11(&nodes, &ports);
@@ -177,7 +174,7 @@ fn refused(claim: &[u8], stride: u32, list: &[u32], nodes: &mut [u32], ports: &m
 
 // The seven routes, or another list, into memory for six nodes and seven ports.
 fn refused_list(claim: &[u8], stride: u32, list: &[u32]) {
-    let mut nodes = [77u32; 18];
+    let mut nodes = [77u32; 12];
     let mut ports = [77u16; 7];
     refused(claim, stride, list, &mut nodes, &mut ports);
 }
@@ -193,13 +190,13 @@ fn refusals() {
 }
 
 fn short_nodes(claim: &[u8], list: &[u32]) {
-    let mut nodes = [77u32; 17];
+    let mut nodes = [77u32; 11];
     let mut ports = [77u16; 7];
     refused(claim, 1, list, &mut nodes, &mut ports);
 }
 
 fn short_ports(claim: &[u8], list: &[u32]) {
-    let mut nodes = [77u32; 18];
+    let mut nodes = [77u32; 12];
     let mut ports = [77u16; 6];
     refused(claim, 1, list, &mut nodes, &mut ports);
 }
@@ -210,58 +207,6 @@ fn no_room() {
     short_ports(b"a_port_too_few_is_refused_9", &seven());
 }
 
-fn store_word(nodes: &mut [u32], at: usize, value: u32) {
-    if at < nodes.len() {
-        nodes[at] = value;
-    }
-}
-
-fn store_port(ports: &mut [u16], at: usize, value: u16) {
-    if at < ports.len() {
-        ports[at] = value;
-    }
-}
-
-// Example 9, looked up at 0101 with one word changed, or with the first port changed.
-fn word_damaged(claim: &[u8], at: usize, value: u32) {
-    let mut nodes = [0u32; 18];
-    let mut ports = [0u16; 7];
-    build(1, &seven(), &mut nodes, &mut ports);
-    store_word(&mut nodes, at, value);
-    found(claim, lookup(1, &nodes, &ports, 1342177280));
-}
-
-fn port_damaged(claim: &[u8], value: u16) {
-    let mut nodes = [0u32; 18];
-    let mut ports = [0u16; 7];
-    build(1, &seven(), &mut nodes, &mut ports);
-    store_port(&mut ports, 0, value);
-    found(claim, lookup(1, &nodes, &ports, 1342177280));
-}
-
-fn damages() {
-    word_damaged(b"nothing_damaged", 18, 0);
-    word_damaged(b"a_node_past_those_lent_is_refused_11", 1, 9);
-    word_damaged(b"a_bitmap_of_4_is_refused_11", 3, 4);
-    word_damaged(b"a_leaf_past_the_ports_is_refused_11", 5, 7);
-    port_damaged(b"port_4095_is_refused_11", 4095);
-    port_damaged(b"port_4094_is_answered", 4094);
-}
-
-// Node 1 made its own child, so that the walk goes on to the last depth.
-fn too_deep() {
-    found(b"no_nodes_are_refused_11", lookup(1, &[], &[], 0));
-    found(
-        b"a_non_leaf_at_depth_31_is_refused_11",
-        lookup(1, &[0, 0, 0], &[], 0),
-    );
-    found(
-        b"a_non_leaf_at_depth_28_is_refused_11",
-        lookup(4, &[0, 0, 0], &[], 0),
-    );
-    found(b"stride_3_is_refused_12", lookup(3, &[0, 0, 0], &[], 0));
-}
-
 fn main() {
     example_9();
     addresses_9();
@@ -270,6 +215,4 @@ fn main() {
     example_11();
     refusals();
     no_room();
-    damages();
-    too_deep();
 }

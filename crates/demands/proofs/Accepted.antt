@@ -2,7 +2,7 @@
 -- nothing.
 use mathlib.Core.Path.{_≡_, refl, ap, subst, _∙_}
 use mathlib.Core.List.{List, [], _∷_}
-use Prim.Native.Nat.{ℕ, _-_, _/_, _^_}
+use Prim.Native.Nat.{ℕ, _-_, _^_}
 use native.Mathlib.Omega.{arith}
 use lib.Count.{ones, onesIn}
 use lib.ListN.{replicate}
@@ -15,7 +15,7 @@ use Rattle.refusals.specs.declared.Answer.{Answer}
 use Rattle.routes.specs.Routes.{routeAt}
 use Rattle.lists.specs.Numbered.{listOf}
 use Rattle.routes.specs.Check.{faultAt, firstFault, routesCheck, listCheck}
-use Rattle.routes.specs.Scan.{scanOf, listScan}
+use Rattle.routes.specs.Scan.{scanOf}
 use Rattle.file_rules.specs.Theorems.{emptyFile}
 use Rattle.file_rules.proofs.Trips.{empty-file}
 use Rattle.table_rows.specs.Words.{rowAt, storeRow, fiveWords}
@@ -25,14 +25,12 @@ use Rattle.table_update.specs.Calls.{buildInto}
 use Rattle.image_rules.specs.Image.{someLonger}
 use Rattle.image_rules.specs.Lookup as image
 use Rattle.image_rules.specs.Lookup.{lookupWords}
-use Rattle.image_build.specs.Build.{Left, left, doneBuild, listRoutes, buildImage}
+use Rattle.image_build.specs.Build.{Left, left, doneBuild, buildImage}
 use Rattle.runs_rules.specs.Runs.{Run, run, Lists}
 use Rattle.runs_rules.specs.Listing.{writeRuns}
 use Rattle.runs_rules.proofs.Listing.{listed-lists, listed-none, list-runs-done}
 use Rattle.table_runs.specs.TableRuns.{tableRoutes, tableRuns}
-use Rattle.refusals.specs.declared.found.Found.{Found}
-use Rattle.demands.specs.Demands.{Demand1}
-use Rattle.demands.specs.Impostors.{EachAccepts, NoCallRefusesAll}
+use Rattle.demands.specs.Impostors.{NoCallRefusesAll}
 use Rattle.demands.proofs.Decided.{demand-1-decides}
 use Rattle.demands.proofs.OfLists.{read-refuses, write-refuses, check-refuses, list-runs-refuses}
 use Rattle.demands.proofs.OfTables.{table-check-refuses, build-refuses, save-refuses, table-runs-refuses}
@@ -66,16 +64,16 @@ whole-space-built = rw whole-space-fine
 abbrev wholeBits : List BitRoute
 wholeBits = record { prefix = []; port = 1 } ∷ []
 
-pub no-routes-imaged : buildImage 32 1 [] (replicate 3 0) (replicate 2 0) ≡ left (doneBuild 1 2) (3 ∷ 0 ∷ 0 ∷ []) (0 ∷ 0 ∷ [])
+pub no-routes-imaged : buildImage 32 1 [] (replicate 2 0) (replicate 2 0) ≡ left (doneBuild 1 2) (3 ∷ 1 ∷ []) (0 ∷ 0 ∷ [])
 unfolding someLonger listOf bits longest plainScan
-no-routes-imaged = image-is 1 [] (3 ∷ 0 ∷ 0 ∷ []) (0 ∷ 0 ∷ []) [] refl no-routes-fine refl refl refl (replicate 3 0) (replicate 2 0) refl
+no-routes-imaged = image-is 1 [] (3 ∷ 1 ∷ []) (0 ∷ 0 ∷ []) [] refl no-routes-fine refl refl refl (replicate 2 0) (replicate 2 0) refl
 
-pub whole-space-imaged : buildImage 32 1 wholeSpace (replicate 3 0) (replicate 2 0) ≡ left (doneBuild 1 2) (3 ∷ 0 ∷ 0 ∷ []) (1 ∷ 1 ∷ [])
+pub whole-space-imaged : buildImage 32 1 wholeSpace (replicate 2 0) (replicate 2 0) ≡ left (doneBuild 1 2) (3 ∷ 1 ∷ []) (1 ∷ 1 ∷ [])
 unfolding someLonger listOf bits longest plainScan
 whole-space-imaged =
-    image-is 1 wholeSpace (3 ∷ 0 ∷ 0 ∷ []) (1 ∷ 1 ∷ []) wholeBits refl whole-space-fine refl refl refl (replicate 3 0) (replicate 2 0) refl
+    image-is 1 wholeSpace (3 ∷ 1 ∷ []) (1 ∷ 1 ∷ []) wholeBits refl whole-space-fine refl refl refl (replicate 2 0) (replicate 2 0) refl
 
-image-found : lookupWords 32 1 (3 ∷ 0 ∷ 0 ∷ []) (0 ∷ 0 ∷ []) 0 .number ≡ 0
+image-found : lookupWords 32 1 (3 ∷ 1 ∷ []) (0 ∷ 0 ∷ []) 0 .number ≡ 0
 unfolding lookupWords image.walk ones onesIn
 image-found = refl
 
@@ -135,19 +133,19 @@ no-call-refuses-all B d =
       image-build = (
         1,
         [],
-        replicate 3 0,
         replicate 2 0,
-        λ x m. D .image-build 1 [] (replicate 3 0) (replicate 2 0) _ _ _ _ (d .image-build 1 [] (replicate 3 0) (replicate 2 0) x m .exact)
-            (image-build-refuses 32 1 [] (replicate 3 0) (replicate 2 0) .exact) .0
+        replicate 2 0,
+        λ x m. D .image-build 1 [] (replicate 2 0) (replicate 2 0) _ _ _ _ (d .image-build 1 [] (replicate 2 0) (replicate 2 0) x m .exact)
+            (image-build-refuses 32 1 [] (replicate 2 0) (replicate 2 0) .exact) .0
             ∙ ap (λ (y : Left). y .built .number) no-routes-imaged,
       );
       image-lookup = (
         1,
-        3 ∷ 0 ∷ 0 ∷ [],
+        3 ∷ 1 ∷ [],
         0 ∷ 0 ∷ [],
         0,
-        λ x m. D .image-lookup 1 (3 ∷ 0 ∷ 0 ∷ []) (0 ∷ 0 ∷ []) 0 _ _ _ _ (d .image-lookup 1 (3 ∷ 0 ∷ 0 ∷ []) (0 ∷ 0 ∷ []) 0 x m .exact)
-            (image-lookup-refuses 32 1 (3 ∷ 0 ∷ 0 ∷ []) (0 ∷ 0 ∷ []) 0 .exact) .0
+        λ x m. D .image-lookup 1 (3 ∷ 1 ∷ []) (0 ∷ 0 ∷ []) 0 _ _ _ _ (d .image-lookup 1 (3 ∷ 1 ∷ []) (0 ∷ 0 ∷ []) 0 x m .exact)
+            (image-lookup-refuses 32 1 (3 ∷ 1 ∷ []) (0 ∷ 0 ∷ []) 0 .exact) .0
             ∙ image-found,
       );
     }

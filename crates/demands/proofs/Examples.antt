@@ -133,22 +133,22 @@ seven-fine : listCheck 32 seven ≡ accepted 0
 unfolding listCheck routesCheck firstFault faultAt
 seven-fine = refl
 
-nine : buildImage 32 1 seven (dirt 22) (dirt 9) ≡ left (doneBuild 6 7) sixNodes sevenPorts
+nine : buildImage 32 1 seven (dirt 16) (dirt 9) ≡ left (doneBuild 6 7) sixNodes sevenPorts
 unfolding someLonger listOf bits longest plainScan
 nine =
-    image-is 1 seven (0 ∷ 1 ∷ 0 ∷ 1 ∷ 2 ∷ 0 ∷ 2 ∷ 2 ∷ 1 ∷ 3 ∷ 0 ∷ 2 ∷ 1 ∷ 1 ∷ 4 ∷ 3 ∷ 0 ∷ 5 ∷ []) (1 ∷ 2 ∷ 3 ∷ 4 ∷ 5 ∷ 6 ∷ 7 ∷ []) sevenBits seven-listed
-    seven-fine refl refl refl (dirt 22) (dirt 9) refl
+    image-is 1 seven (0 ∷ 1 ∷ 1 ∷ 2 ∷ 2 ∷ 2 ∷ 3 ∷ 2 ∷ 1 ∷ 1 ∷ 3 ∷ 1 ∷ []) (1 ∷ 2 ∷ 3 ∷ 4 ∷ 5 ∷ 6 ∷ 7 ∷ []) sevenBits seven-listed
+    seven-fine refl refl refl (dirt 16) (dirt 9) refl
 
-ten : buildImage 32 2 seven (dirt 11) (dirt 12)
-    ≡ left (doneBuild 3 10) (6 ∷ 1 ∷ 0 ∷ 15 ∷ 0 ∷ 2 ∷ 15 ∷ 0 ∷ 6 ∷ dirt 2) (1 ∷ 2 ∷ 3 ∷ 3 ∷ 4 ∷ 4 ∷ 6 ∷ 7 ∷ 5 ∷ 5 ∷ dirt 2)
+ten : buildImage 32 2 seven (dirt 8) (dirt 12)
+    ≡ left (doneBuild 3 10) (6 ∷ 1 ∷ 15 ∷ 2 ∷ 15 ∷ 1 ∷ dirt 2) (1 ∷ 2 ∷ 3 ∷ 3 ∷ 4 ∷ 4 ∷ 6 ∷ 7 ∷ 5 ∷ 5 ∷ dirt 2)
 unfolding someLonger listOf bits longest plainScan
 ten =
-    image-is 2 seven (6 ∷ 1 ∷ 0 ∷ 15 ∷ 0 ∷ 2 ∷ 15 ∷ 0 ∷ 6 ∷ []) (1 ∷ 2 ∷ 3 ∷ 3 ∷ 4 ∷ 4 ∷ 6 ∷ 7 ∷ 5 ∷ 5 ∷ []) sevenBits seven-listed seven-fine refl refl refl
-    (dirt 11) (dirt 12) refl
+    image-is 2 seven (6 ∷ 1 ∷ 15 ∷ 2 ∷ 15 ∷ 1 ∷ []) (1 ∷ 2 ∷ 3 ∷ 3 ∷ 4 ∷ 4 ∷ 6 ∷ 7 ∷ 5 ∷ 5 ∷ []) sevenBits seven-listed seven-fine refl refl refl
+    (dirt 8) (dirt 12) refl
 
-eleven : buildImage 32 4 [] (dirt 4) (dirt 17) ≡ left (doneBuild 1 16) (65535 ∷ 0 ∷ 0 ∷ dirt 1) (replicate 16 0 ++ dirt 1)
+eleven : buildImage 32 4 [] (dirt 3) (dirt 17) ≡ left (doneBuild 1 16) (65535 ∷ 1 ∷ dirt 1) (replicate 16 0 ++ dirt 1)
 unfolding someLonger listOf bits longest plainScan
-eleven = image-is 4 [] (65535 ∷ 0 ∷ 0 ∷ []) (replicate 16 0) [] refl no-routes-fine refl refl refl (dirt 4) (dirt 17) refl
+eleven = image-is 4 [] (65535 ∷ 1 ∷ []) (replicate 16 0) [] refl no-routes-fine refl refl refl (dirt 3) (dirt 17) refl
 
 three-runs : runs.listed 32 (routeAt twoHalves) 2
     ≡ run 0 (address 10 8 - 1) 0 ∷ run (address 10 8) (address 11 8 - 1) 7 ∷ run (address 11 8) (2 ^ 32 - 1) 0 ∷ []
@@ -207,16 +207,16 @@ starred-hold = (
                     sym (x .2)
                     ∙ ap wholeWords (exports-follow .table-withdraw tableI 10 (address 38 6) 6 (x .0) (x .1) ∙ ap replied withdrawal-is),
                 (
-                  imaged-is 1 seven (dirt 22) (dirt 9) _ nine,
+                  imaged-is 1 seven (dirt 16) (dirt 9) _ nine,
                   (
                     λ words x.
                         sym (x .2)
                         ∙ ap (λ (y : Reply). y .number ∷ y .answer)
                         (exports-follow .image-lookup 1 sixNodes sevenPorts (address 5 4) (x .0) (x .1) ∙ ap looked nine-found),
                     (
-                      imaged-is 2 seven (dirt 11) (dirt 12) _ ten,
+                      imaged-is 2 seven (dirt 8) (dirt 12) _ ten,
                       (
-                        imaged-is 4 [] (dirt 4) (dirt 17) _ eleven,
+                        imaged-is 4 [] (dirt 3) (dirt 17) _ eleven,
                         (
                           λ words x.
                               sym (x .2) ∙ ap wholeWords (exports-follow .list-runs twoHalves (dirt 11) (x .0) (x .1) ∙ ap replied twelve),

@@ -1,14 +1,14 @@
 -- The five impostors break the demands: each at a history of a call or two, or at a build, that is written out. Assumes nothing.
 use mathlib.Core.Path.{_≡_, refl, sym, ap, subst, _∙_}
 use mathlib.Core.Logic.{_⊎_, inl, inr}
-use mathlib.Core.Bool.{Bool, true, false, cond, true≢false, false≢true}
+use mathlib.Core.Bool.{true, false, false≢true}
 use mathlib.Core.List.{List, [], _∷_}
-use Prim.Native.Nat.{ℕ, zero, suc, _+_, _*_, _^_, _<_, _≤_}
+use Prim.Native.Nat.{ℕ, zero, suc, _+_, _<_, _≤_}
 use native.Mathlib.Omega.{arith}
 use lib.ListN.{replicate}
 use Rattle.promise.specs.Over.{Outcome}
 use Rattle.lists.proofs.Tests.{lt-or-le}
-use Rattle.bits.specs.Bits.{bits, prefixBits, same}
+use Rattle.bits.specs.Bits.{bits}
 use Rattle.trie.specs.Routes.{Routes}
 use Rattle.trie.specs.Scan.{longest, plainScan}
 use Rattle.refusals.specs.Refusals.{found as answered}
@@ -27,7 +27,7 @@ use Rattle.image_rules.specs.Image.{passed}
 use Rattle.image_build.specs.Build.{Left, listRoutes, buildImage}
 use Rattle.maftehon.specs.Reply.{Imaged}
 use Rattle.demands.specs.Boundary.{Boundary, result, readCount, Ends}
-use Rattle.demands.specs.History.{Step, May, left, Happened, emptyTable, atEnd, heldBy}
+use Rattle.demands.specs.History.{Step, May, left, emptyTable, heldBy}
 use Rattle.demands.specs.Demands.{Demands}
 use Rattle.demands.specs.Checks.{announceChecks, withdrawChecks, NotHeld}
 use Rattle.demands.specs.Impostors.{IgnoresAnnouncements, IgnoresWithdrawals, FixedPort, FixedPortOfImage, ImpostorsStopped}
@@ -258,9 +258,9 @@ impostors-stopped = record {
   fixed-port-of-image = λ B ends d fixed.
       omega (
         arith,
-        fixed-is-image-scan B ends d [] (replicate 3 0) (replicate 2 0) no-words (ap (λ (x : Left). x .built .number) no-routes-imaged) fixed,
+        fixed-is-image-scan B ends d [] (replicate 2 0) (replicate 2 0) no-words (ap (λ (x : Left). x .built .number) no-routes-imaged) fixed,
         no-routes-scanned,
-        fixed-is-image-scan B ends d wholeSpace (replicate 3 0) (replicate 2 0) whole-space-words (ap (λ (x : Left). x .built .number) whole-space-imaged) fixed,
+        fixed-is-image-scan B ends d wholeSpace (replicate 2 0) (replicate 2 0) whole-space-words (ap (λ (x : Left). x .built .number) whole-space-imaged) fixed,
         whole-space-scanned,
       );
   untouched-by-announcing = λ B ends d untouched. later-announced B ends d (λ rows n q o some. untouched rows n q o);

@@ -3,7 +3,7 @@ use mathlib.Core.Path.{_≡_, refl}
 use mathlib.Core.Logic.{_⊎_}
 use mathlib.Core.Bool.{Bool, true, false, cond, _&&_, true≢false}
 use mathlib.Core.List.{List}
-use Prim.Native.Nat.{ℕ, zero, suc, _+_, _/_, _^_, _<_, _≤_}
+use Prim.Native.Nat.{ℕ, zero, suc, _+_, _-_, _*_, _/_, _^_, _<_, _≤_}
 use native.Mathlib.Omega.{arith}
 use lib.Dec.{eqb, leb, ltb}
 use lib.ListN.{length, getD}
@@ -14,10 +14,10 @@ use Rattle.refusals.specs.Refusals.{noRoom, notInOrder, wrongStride, found, los
 use Rattle.routes.specs.Bounds.{lastPort}
 use Rattle.routes.specs.Check.{listCheck}
 use Rattle.refusals.specs.declared.Answer.{Answer}
-use Rattle.image_rules.specs.Node.{nodeCount, isNode, bitmapOf}
+use Rattle.image_rules.specs.Node.{nodeCount, isNode, bitmapOf, nextOf, isBased}
 use Rattle.image_rules.specs.Image.{imagePaths, imageNodes, imagePorts}
-use Rattle.image_rules.specs.Lookup.{addressSlot, leafOf, childAt, leafAt, walk, isStride, lookupWords}
-use Rattle.refusals.specs.declared.found.Found.{Found}
+use Rattle.image_rules.specs.Lookup.{addressSlot, leafOf, childAt, leafAt, isSound, walk, isStride, lookupWords}
+use Rattle.image_rules.specs.NodesRead.{Unsound}
 use Rattle.image_build.specs.Build.{Left, left, refusedBuild, doneBuild, listRoutes, imageInto, buildImage}
 use Rattle.demands.specs.Lamp.{shows, done}
 use Rattle.demands.specs.Checks.{imageChecks, nodeChecks, imageLookupChecks}
@@ -73,6 +73,15 @@ tells-node nodes i =
     tells-and (ltb 0 i) (leb i (nodeCount nodes)) (i ≡ 0) (nodeCount nodes < i)
     (tells-as (ltb 0 i) (i ≤ 0) (i ≡ 0) (λ h. omega arith) (λ h. omega arith) (tells-lt 0 i)) (tells-le i (nodeCount nodes))
 
+tells-sound : (s : ℕ) (nodes : List ℕ) (i : ℕ) → Tells (isSound s nodes i) (Unsound s nodes i)
+tells-sound s nodes i =
+    let next = nextOf nodes i in
+    let slots = 2 ^ s * (i - 1) in
+    tells-and (ltb (bitmapOf nodes i) (2 ^ (2 ^ s))) (isBased (2 ^ s) nodes i) (2 ^ (2 ^ s) ≤ bitmapOf nodes i) ((next < 2) ⊎ (slots + 2 < next))
+    (tells-lt (bitmapOf nodes i) (2 ^ (2 ^ s)))
+    (tells-and (leb 2 next) (leb (next - 2) slots) (next < 2) (slots + 2 < next) (tells-le 2 next)
+    (tells-as (leb (next - 2) slots) (slots < next - 2) (slots + 2 < next) (λ h. omega arith) (λ h. omega arith) (tells-le (next - 2) slots)))
+
 pub nodes-refuse : (s : ℕ) (nodes ports : List ℕ) (a k i reads : ℕ)
     → On looking (nodeChecks s nodes ports a k i) (walk s nodes ports a k i reads)
 unfolding walk
@@ -85,8 +94,8 @@ nodes-refuse s nodes ports a (suc k) i reads =
     let below = walk s nodes ports a k (childAt (2 ^ s) nodes i (addressSlot s a k)) (reads + 1) in
     let slot = cond (eqb bit 1) (leafAt ports leaf (reads + 1)) below in
     on-test looking (isNode nodes i) _ (tells-node nodes i) notInOrder 0 _
-    (λ b. cond b (cond (ltb map (2 ^ (2 ^ s))) slot (lost notInOrder (reads + 1))) (lost notInOrder reads))
-    (on-test looking (ltb map (2 ^ (2 ^ s))) _ (tells-lt map (2 ^ (2 ^ s))) notInOrder 0 _ (λ b. cond b slot (lost notInOrder (reads + 1)))
+    (λ b. cond b (cond (isSound s nodes i) slot (lost notInOrder (reads + 1))) (lost notInOrder reads))
+    (on-test looking (isSound s nodes i) _ (tells-sound s nodes i) notInOrder 0 _ (λ b. cond b slot (lost notInOrder (reads + 1)))
     (on-whether looking (eqb bit 1) (bit ≡ 1) _ _ (λ b. cond b (leafAt ports leaf (reads + 1)) below) (eqb-true bit 1) (eqb-false bit 1)
     (on-test looking (ltb leaf (length ports)) _ (tells-lt leaf (length ports)) notInOrder 0 _
     (λ b. cond b (cond (leb port lastPort) (found port (reads + 1)) (lost notInOrder (reads + 1))) (lost notInOrder (reads + 1)))

@@ -20,6 +20,7 @@ use Rattle.table_rules.specs.Holds.{GoodFor, GoodOrder}
 use Rattle.table_rules.specs.Lookup.{wrongRow, endsAt}
 use Rattle.image_rules.specs.Node.{nodeCount, bitmapOf}
 use Rattle.image_rules.specs.Lookup.{addressSlot, leafOf, childAt}
+use Rattle.image_rules.specs.NodesRead.{Unsound}
 use Rattle.image_rules.specs.Image.{imageNodes, imagePorts}
 use Rattle.image_build.specs.Build as build
 use Rattle.runs_rules.specs.Runs.{Run}
@@ -141,7 +142,7 @@ abbrev pub nodeChecks : ℕ → List ℕ → List ℕ → ℕ → ℕ → ℕ �
 nodeChecks s nodes ports a zero i = shows notInOrder 0
 nodeChecks s nodes ports a (suc k) i =
     refuse notInOrder 0 ((i ≡ 0) ⊎ (nodeCount nodes < i))
-    (refuse notInOrder 0 (2 ^ (2 ^ s) ≤ bitmapOf nodes i)
+    (refuse notInOrder 0 (Unsound s nodes i)
     (whether (slotBit (2 ^ s) (bitmapOf nodes i) (addressSlot s a k) ≡ 1)
     (refuse notInOrder 0 (length ports ≤ leafOf (2 ^ s) nodes i (addressSlot s a k))
     (refuse notInOrder 0 (lastPort < getD ports (leafOf (2 ^ s) nodes i (addressSlot s a k)) 0) done))

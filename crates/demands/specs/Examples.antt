@@ -79,9 +79,9 @@ seven =
     address 0 3 ∷ 3 ∷ 3 ∷ address 1 3 ∷ 3 ∷ 4 ∷ address 1 2 ∷ 2 ∷ 1 ∷ address 2 2 ∷ 2 ∷ 2 ∷ address 12 4 ∷ 4 ∷ 6
     ∷ address 13 4 ∷ 4 ∷ 7 ∷ address 7 3 ∷ 3 ∷ 5 ∷ []
 
--- its nodes at stride 1: "bitmaps 0,1,2,3,1,3; offsets 1,2,2,0,1,0; leaf bases 0,0,1,2,4,5"
+-- its nodes at stride 1: "bitmaps 0,1,2,3,1,3", and "offsets become 1,2,2,2,1,1"
 abbrev pub sixNodes : List ℕ
-sixNodes = 0 ∷ 1 ∷ 0 ∷ 1 ∷ 2 ∷ 0 ∷ 2 ∷ 2 ∷ 1 ∷ 3 ∷ 0 ∷ 2 ∷ 1 ∷ 1 ∷ 4 ∷ 3 ∷ 0 ∷ 5 ∷ dirt 4
+sixNodes = 0 ∷ 1 ∷ 1 ∷ 2 ∷ 2 ∷ 2 ∷ 3 ∷ 2 ∷ 1 ∷ 1 ∷ 3 ∷ 1 ∷ dirt 4
 
 -- "ports 1..7"
 abbrev pub sevenPorts : List ℕ
@@ -116,11 +116,11 @@ starred =
     (row 5 3 8 0 0
     (row 14 4 9 0 6
     (row 0 0 0 0 0 (dirt 7)))))))))))
-    ∷ example 9 (image-build 1 seven (dirt 22) (dirt 9)) (imageOf 6 7 sixNodes sevenPorts)
+    ∷ example 9 (image-build 1 seven (dirt 16) (dirt 9)) (imageOf 6 7 sixNodes sevenPorts)
     ∷ example 9 (image-lookup 1 sixNodes sevenPorts (address 5 4)) (found 1 2)
-    ∷ example 10 (image-build 2 seven (dirt 11) (dirt 12))
-    (imageOf 3 10 (6 ∷ 1 ∷ 0 ∷ 15 ∷ 0 ∷ 2 ∷ 15 ∷ 0 ∷ 6 ∷ dirt 2) (1 ∷ 2 ∷ 3 ∷ 3 ∷ 4 ∷ 4 ∷ 6 ∷ 7 ∷ 5 ∷ 5 ∷ dirt 2))
-    ∷ example 11 (image-build 4 [] (dirt 4) (dirt 17)) (imageOf 1 16 (65535 ∷ 0 ∷ 0 ∷ dirt 1) (replicate 16 0 ++ dirt 1))
+    ∷ example 10 (image-build 2 seven (dirt 8) (dirt 12))
+    (imageOf 3 10 (6 ∷ 1 ∷ 15 ∷ 2 ∷ 15 ∷ 1 ∷ dirt 2) (1 ∷ 2 ∷ 3 ∷ 3 ∷ 4 ∷ 4 ∷ 6 ∷ 7 ∷ 5 ∷ 5 ∷ dirt 2))
+    ∷ example 11 (image-build 4 [] (dirt 3) (dirt 17)) (imageOf 1 16 (65535 ∷ 1 ∷ dirt 1) (replicate 16 0 ++ dirt 1))
     ∷ example 12 (list-runs twoHalves (dirt 11))
     (0 ∷ 0 ∷ 3
     ∷ 0 ∷ (address 10 8 - 1) ∷ 0

@@ -1,8 +1,8 @@
 -- What the build answers at each return. Assumes nothing.
 use mathlib.Core.Path.{_≡_, sym, ap, ap₂, _∙_}
-use mathlib.Core.Bool.{true, false, and-false, false≢true}
+use mathlib.Core.Bool.{true, false, and-false}
 use mathlib.Core.List.{List}
-use Prim.Native.Nat.{ℕ, zero, suc, _+_, _-_, _*_, _/_, _^_, _≤_, _<_}
+use Prim.Native.Nat.{ℕ, _+_, _-_, _*_, _/_, _^_, _≤_, _<_}
 use native.Mathlib.Omega.{arith}
 use lib.Dec.{leb}
 use lib.ListN.{length}
@@ -88,7 +88,7 @@ module _ (w s : ℕ) (list nodes ports : List ℕ) where
 
 -- the room, as the code has tested it
 pub room-of : (w s : ℕ) (list nodes ports : List ℕ) (n count slots : ℕ) → Stride s → slots ≡ 2 ^ s → slots ≤ mostSlots
-    → ValidList w (routeAt list) n → count ≡ nodesCount w (routeAt list) n s → count ≤ mostNodes w → mostNodes w * mostSlots < 2 ^ w
+    → ValidList w (routeAt list) n → count ≡ nodesCount w (routeAt list) n s → count ≤ mostNodes w → mostNodes w < 2 ^ w
     → count * nodeSize ≤ length nodes → count * (slots - 1) + 1 ≤ length ports → ImageRoom w list n s slots nodes ports
 room-of w s list nodes ports n count slots t are few ok counted small hold a b = record {
   strideOf = t;

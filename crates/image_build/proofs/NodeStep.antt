@@ -2,7 +2,6 @@
 use mathlib.Core.Path.{_≡_, sym, ap, ap₂, _∙_, subst}
 use mathlib.Core.List.{List}
 use Prim.Native.Nat.{ℕ, _+_, _-_, _≤_}
-use native.Mathlib.Omega.{arith}
 use lib.ListN.{length}
 use lib.Seq.{sets}
 use Rattle.lists.specs.Flat.{flat}
@@ -28,18 +27,13 @@ module _ (S : Stretch → List (Slot Stretch)) where
   pub node-built : (a next base : ℕ) (nodes ports : List ℕ) (x y : Stretch) → x ≡ y
       → (f : Filled) → f ≡ filled (bitmap (S x)) (next + length (children S x)) (base + length (leafPorts S x))
       → {nodes′ nodes″ ports′ : List ℕ} → nodes′ ≡ storeNodes nodes next (flat pending (children S x)) → (r : Free) → r ≡ free (f .node .0) (f .leaf .0)
-      → nodes″ ≡ storeNodes nodes′ a (nodeWords (f .bitmap) (offset (f .node .0 - next) next a) base) → ports′ ≡ sets ports base (leafPorts S x)
+      → nodes″ ≡ storeNodes nodes′ a (nodeWords (f .bitmap) (offset next a)) → ports′ ≡ sets ports base (leafPorts S x)
       → (r ≡ free (next + length (children S y)) (base + length (leafPorts S y)))
-      × (nodes″ ≡ buildNode S nodes a next base y) × (ports′ ≡ sets ports base (leafPorts S y))
+      × (nodes″ ≡ buildNode S nodes a next y) × (ports′ ≡ sets ports base (leafPorts S y))
   node-built a next base nodes ports x y e f g {nodes′} {nodes″} {ports′} p r b c q =
       subst (λ (z : Stretch). (r ≡ free (next + length (children S z)) (base + length (leafPorts S z)))
-      × (nodes″ ≡ buildNode S nodes a next base z) × (ports′ ≡ sets ports base (leafPorts S z))) e (
+      × (nodes″ ≡ buildNode S nodes a next z) × (ports′ ≡ sets ports base (leafPorts S z))) e (
         b ∙ ap (λ (v : Filled). free (v .node .0) (v .leaf .0)) g,
-        c ∙ ap (λ (l : List ℕ). storeNodes l a (nodeWords (f .bitmap) (offset (f .node .0 - next) next a) base)) p
-            ∙ ap₂ (λ (m o : ℕ). storeNodes (storeNodes nodes next (flat pending (children S x))) a (nodeWords m o base))
-            (ap (λ (v : Filled). v .bitmap) g) (ap (λ (n : ℕ). offset n next a) n),
+        c ∙ ap₂ (λ (l : List ℕ) (m : ℕ). storeNodes l a (nodeWords m (offset next a))) p (ap (λ (v : Filled). v .bitmap) g),
         q,
       )
-    where
-      n : f .node .0 - next ≡ length (children S x)
-      n = omega (arith, ap (λ (v : Filled). v .node .0) g)

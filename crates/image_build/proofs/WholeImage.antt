@@ -54,7 +54,7 @@ module _ (w : ℕ) (list : List ℕ) (n s slots : ℕ) (nodes ports : List ℕ) 
     rooted-queue =
         subst (λ (k : ℕ). Queue w R s k n (stretchSlots w R s k) (levels (stretchSlots w R s k) (w / s) (rootOf n ∷ [])) rooted ports) (sym (r .slotsAre))
         (queue-of w s list n st (r .valid) rooted ports (omega (arith, length-rooted, r .nodesFit)) (omega (arith, ports-are, r .portsFit))
-        (omega (arith, r .nodesFew, r .wordsHold)) (omega (arith, ports-are, leaves-few w count slots (r .nodesFew) (r .slotsFew), r .wordsHold)))
+        (omega (arith, r .nodesFew, r .wordsHold)))
 
     image-is : (treeWords (stretchSlots w R s slots) allIn ≡ imageNodes s (w / s) (routesOf w R n))
         × (treePorts (stretchSlots w R s slots) allIn ≡ imagePorts s (w / s) (routesOf w R n))

@@ -26,4 +26,4 @@ pub record ImageRoom (w : ℕ) (list : List ℕ) (n stride slots : ℕ) (nodes p
   pub nodesFit : nodesCount w (routeAt list) n stride * nodeSize ≤ length nodes
   pub portsFit : nodesCount w (routeAt list) n stride * (slots - 1) + 1 ≤ length ports
   pub nodesFew : nodesCount w (routeAt list) n stride ≤ mostNodes w
-  pub wordsHold : mostNodes w * mostSlots < 2 ^ w
+  pub wordsHold : mostNodes w < 2 ^ w

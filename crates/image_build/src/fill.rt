@@ -12,7 +12,7 @@ ghost use Rattle.image_rules.specs.Breadth.{slotChildren, slotPorts, bitmap, ch
 ghost use Rattle.image_rules.specs.Image.{imageNodes, imagePorts, routesOf};
 ghost use Rattle.image_nodes.specs.Needs.{Lent};
 ghost use Rattle.image_stretch.specs.Stretches.{halfWord, shortAfter, slotStretchAt, slotIn, addressOf, slotAddress, stretchSlots, rootOf};
-ghost use Rattle.image_stretch.specs.Memory.{pending, pendingAt, free, filled, filledBy, filledLeaves, owed, keptAfter, buildNode};
+ghost use Rattle.image_stretch.specs.Memory.{inHalves, pending, pendingAt, free, filled, filledBy, filledLeaves, owed, keptAfter, buildNode};
 ghost use Rattle.image_stretch.specs.Needs.{Fits, Clear, Buildable, Queue};
 ghost use Rattle.image_build.specs.Needs.{mostSlots, ImageRoom};
 use image_nodes::Distance;
@@ -31,15 +31,22 @@ use image_stretch::search::slot_stretch;
 use prefix::Prefix;
 use routes::route_at;
 
-// Stores a node still to do in the words of its node.
+// Two numbers in one word.
+fn halves(high: u32, low: u32) -> u32
+    requires { ⌜ (high < halfWord) × (low < halfWord) ⌝ }
+    ensures { λ r. ⌜ r ≡ inHalves high low ⌝ }
+{
+    high * HALF_WORD + low
+}
+
+// Stores a node still to do in the two words of its node. Any depth that half a word holds has room.
 fn store_pending(nodes: &mut [u32], at: Node, x: Stretch)
-    requires { ⌜ Fits x × (x .depth ≤ 32) × Lent (now nodes) (at .0) ⌝ }
+    requires { ⌜ Fits x × (x .depth < halfWord) × Lent (now nodes) (at .0) ⌝ }
     ensures { λ _. ⌜ now (nodes .exit) ≡ storeNodes (now (nodes .entry)) (at .0) (pending x) ⌝ }
 {
     let words = NodeWords {
-        bitmap: x.lo as u32,
-        offset: x.hi as u32,
-        base: x.depth * HALF_WORD + x.best,
+        bitmap: halves(x.lo as u32, x.hi as u32),
+        offset: halves(x.depth, x.best),
     };
     store_node(nodes, at, words);
 }
@@ -51,36 +58,26 @@ fn pending_at(nodes: &[u32], at: Node) -> Stretch
 {
     let x = node_at(nodes, at);
     Stretch {
-        lo: x.bitmap as usize,
-        hi: x.offset as usize,
-        depth: x.base / HALF_WORD,
-        best: x.base % HALF_WORD,
+        lo: (x.bitmap / HALF_WORD) as usize,
+        hi: (x.bitmap % HALF_WORD) as usize,
+        depth: x.offset / HALF_WORD,
+        best: x.offset % HALF_WORD,
     }
 }
 
-// From a node to its first child, where its children are the nodes from `first` up to `past`; 0 if there are none.
-fn offset_to(at: Node, first: Node, past: Node) -> Distance
-    ensures { λ r. ⌜ (r .0 ≡ offset (past .0 - first .0) (first .0) (at .0)) × (r .0 ≤ first .0 - at .0) ⌝ }
-{
-    if past.0 <= first.0 {
-        return Distance(0);
-    }
-    at.to(first)
-}
-
-// Stores a node's words, where its children and its leaves begin at the first that were not in use; those that are now not in use.
-fn put_node(nodes: &mut [u32], at: Node, st: Free, f: Filled) -> Free
-    requires { ⌜ Lent (now nodes) (at .0) × (st .node .0 ≤ 2 ^ 32) × (st .leaf .0 < 2 ^ 32) ⌝ }
+// Stores a node's words, where `next` was the first node that was not in use when its slots were filled; what is now not in use.
+fn put_node(nodes: &mut [u32], at: Node, next: Node, f: Filled) -> Free
+    requires { ⌜ Lent (now nodes) (at .0) × (next .0 ≤ 2 ^ 32) ⌝ }
     ensures { λ r. ⌜ (r ≡ free (f .node .0) (f .leaf .0))
-        × (now (nodes .exit) ≡ storeNodes (now (nodes .entry)) (at .0) (nodeWords (f .bitmap) (offset (f .node .0 - st .node .0) (st .node .0) (at .0)) (st .leaf .0))) ⌝ }
+        × (now (nodes .exit) ≡ storeNodes (now (nodes .entry)) (at .0) (nodeWords (f .bitmap) (offset (next .0) (at .0)))) ⌝ }
 {
     let node = f.node;
     let leaf = f.leaf;
-    let distance = offset_to(at, st.node, node);
+    let distance = at.to(next);
+    let offset = distance.0 as u32;
     let words = NodeWords {
         bitmap: f.bitmap,
-        offset: distance.0 as u32,
-        base: st.leaf.0 as u32,
+        offset,
     };
     store_node(nodes, at, words);
     Free { node, leaf }
@@ -136,7 +133,7 @@ fn fill_slot(
     best: u32,
     st: Filled,
 ) -> Filled
-    requires { ⌜ (kept ≤ st .leaf .0) × (best < halfWord) × Fits y × (y .depth ≤ 32) × (st .bitmap < 2 ^ 31) × (0 < st .node .0)
+    requires { ⌜ (kept ≤ st .leaf .0) × (best < halfWord) × Fits y × (y .depth < halfWord) × (st .bitmap < 2 ^ 31) × (0 < st .node .0)
         × (nodeStart (st .node .0 + length (slotChildren (slotIn (routeAt (now list)) y))) ≤ length (now nodes))
         × (st .leaf .0 + length (slotPorts (slotIn (routeAt (now list)) y)) ≤ length (now ports)) ⌝ }
     ensures { λ r. ⌜ (r ≡ filledBy (slotIn (routeAt (now (list .entry))) y) st)
@@ -311,18 +308,18 @@ fn build_node(
     at: Node,
     st: Free,
 ) -> Free
-    requires { ⌜ (slots ≤ mostSlots) × (0 < at .0) × (at .0 < st .node .0) × (st .node .0 ≤ 2 ^ 32) × (st .leaf .0 < 2 ^ 32)
+    requires { ⌜ (slots ≤ mostSlots) × (0 < at .0) × (at .0 < st .node .0) × (st .node .0 ≤ 2 ^ 32)
         × Buildable 32 (routeAt (now list)) stride slots (pendingAt (now nodes) (at .0))
         × (nodeStart (st .node .0 + length (children (stretchSlots 32 (routeAt (now list)) stride slots) (pendingAt (now nodes) (at .0)))) ≤ length (now nodes))
         × (st .leaf .0 + length (leafPorts (stretchSlots 32 (routeAt (now list)) stride slots) (pendingAt (now nodes) (at .0))) ≤ length (now ports)) ⌝ }
     ensures { λ r. ⌜ (r ≡ free (st .node .0 + length (children (stretchSlots 32 (routeAt (now (list .entry))) stride slots) (pendingAt (now (nodes .entry)) (at .0))))
         (st .leaf .0 + length (leafPorts (stretchSlots 32 (routeAt (now (list .entry))) stride slots) (pendingAt (now (nodes .entry)) (at .0)))))
-        × (now (nodes .exit) ≡ buildNode (stretchSlots 32 (routeAt (now (list .entry))) stride slots) (now (nodes .entry)) (at .0) (st .node .0) (st .leaf .0) (pendingAt (now (nodes .entry)) (at .0)))
+        × (now (nodes .exit) ≡ buildNode (stretchSlots 32 (routeAt (now (list .entry))) stride slots) (now (nodes .entry)) (at .0) (st .node .0) (pendingAt (now (nodes .entry)) (at .0)))
         × (now (ports .exit) ≡ sets (now (ports .entry)) (st .leaf .0) (leafPorts (stretchSlots 32 (routeAt (now (list .entry))) stride slots) (pendingAt (now (nodes .entry)) (at .0)))) ⌝ }
 {
     let x = pending_at(nodes, at);
     let f = fill_node(list, x, stride, slots, nodes, ports, st);
-    put_node(nodes, at, st, f)
+    put_node(nodes, at, st.node, f)
 }
 
 // All nodes, one after the other; the root is there already.

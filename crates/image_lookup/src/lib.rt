@@ -1,20 +1,18 @@
 // The image's lookup, on whatever words and ports are lent: at most 32 / stride nodes are read.
 ghost use mathlib.Core.Path.{_≡_};
-ghost use Prim.Native.Nat.{_+_};
+ghost use Prim.Native.Nat.{_+_, _-_, _*_, _%_, _^_, _≤_, _<_};
 ghost use lib.Dec.{eqb};
 ghost use Rattle.bits.specs.Bitmap.{slotBit, onesBefore};
-ghost use Rattle.image_rules.specs.Node.{offsetOf, baseOf};
 ghost use Rattle.image_rules.specs.Lookup.{leafAt, lookupWords};
 ghost use Rattle.refusals.specs.Refusals.{found, lost};
-ghost use Rattle.image_nodes.specs.Needs.{Lent, Stride};
-ghost use Rattle.image_lookup.specs.Needs.{InSlots};
+ghost use Rattle.image_nodes.specs.Needs.{Stride};
+ghost use Rattle.image_lookup.specs.Needs.{mostSlotsBefore, InSlots};
 use image_nodes::Distance;
 use image_nodes::Leaf;
 use image_nodes::Node;
-use image_nodes::base_of;
 use image_nodes::bitmap_of;
+use image_nodes::next_of;
 use image_nodes::node_count;
-use image_nodes::offset_of;
 use image_nodes::slots_of;
 use image_nodes::wide;
 use refusals::NOT_IN_ORDER;
@@ -59,21 +57,36 @@ fn port_at(ports: &[u16], leaf: Leaf, reads: u32) -> Found
     Found::found(port, reads)
 }
 
-// On a leaf: its number is leaf base plus the ones before its slot.
-fn leaf_of(nodes: &[u32], at: Node, ones: u32) -> Leaf
-    requires { ⌜ Lent (now nodes) (at .0) ⌝ }
-    ensures { λ r. ⌜ r .0 ≡ baseOf (now (nodes .entry)) (at .0) + ones ⌝ }
+// The slots of all nodes before this one.
+fn slots_before(slots: u32, at: Node) -> usize
+    requires { ⌜ (slots ≤ 16) × (0 < at .0) × (at .0 < 2 ^ 60) ⌝ }
+    ensures { λ r. ⌜ (r ≡ slots * (at .0 - 1)) × (r ≤ mostSlotsBefore) ⌝ }
 {
-    base_of(nodes, at).after(wide(ones))
+    wide(slots) * (at.0 - 1)
 }
 
-// Else: the child's number is the node's plus offset plus the zeros before its slot.
-fn child_of(nodes: &[u32], at: Node, zeros: u32) -> Node
-    requires { ⌜ Lent (now nodes) (at .0) ⌝ }
-    ensures { λ r. ⌜ r .0 ≡ at .0 + offsetOf (now (nodes .entry)) (at .0) + zeros ⌝ }
+// How many of them hold a child, where `next` is the next unused number: children have the numbers from 2 on. A number below 2 wraps
+// past the slots of all nodes, so that one comparison refuses it too.
+fn children_before(next: Node) -> usize
+    ensures { λ r. ⌜ r ≡ (next .0 + 2 ^ 64 - 2) % 2 ^ 64 ⌝ }
 {
-    let first = at.plus(offset_of(nodes, at));
-    first.plus(Distance(wide(zeros)))
+    std::num::wrapping_sub_usize(next.0, 2)
+}
+
+// On a leaf: its number is the leaf base, all slots before the node but the children's, plus the ones before its slot.
+fn leaf_of(slots: usize, children: usize, ones: u32) -> Leaf
+    requires { ⌜ (children ≤ slots) × (slots ≤ mostSlotsBefore) × (ones ≤ 16) ⌝ }
+    ensures { λ r. ⌜ r .0 ≡ slots - children + ones ⌝ }
+{
+    Leaf(slots - children).after(wide(ones))
+}
+
+// Else: the child's number is the next unused one plus the zeros before its slot.
+fn child_of(next: Node, zeros: u32) -> Node
+    requires { ⌜ next .0 < 2 ^ 62 ⌝ }
+    ensures { λ r. ⌜ r .0 ≡ next .0 + zeros ⌝ }
+{
+    next.plus(Distance(wide(zeros)))
 }
 
 // The walk down from the root. No node has the number 0: the root's is 1, and distances are only added to it.
@@ -95,12 +108,18 @@ fn descend(stride: u32, nodes: &[u32], ports: &[u16], address: u32) -> Found
         if bitmap >> slots != 0 {
             return Found::lost(NOT_IN_ORDER, reads);
         }
+        let next = next_of(nodes, at);
+        let before = slots_before(slots, at);
+        let children = children_before(next);
+        if before < children {
+            return Found::lost(NOT_IN_ORDER, reads);
+        }
         let j = (address >> (stride * left)) % slots;
         let ones = ones_before(slots, bitmap, j);
         if is_leaf(slots, bitmap, j) {
-            return port_at(ports, leaf_of(nodes, at, ones), reads);
+            return port_at(ports, leaf_of(before, children, ones), reads);
         }
-        at = child_of(nodes, at, j - ones);
+        at = child_of(next, j - ones);
     }
     // A non-leaf at the last depth.
     Found::lost(NOT_IN_ORDER, reads)

@@ -1,14 +1,14 @@
--- A node that is lent whole, and one that is not, by the code's tests; a node's words stored as three words. Assumes nothing.
+-- A node that is lent whole, and one that is not, by the code's tests; a node's words stored one by one. Assumes nothing.
 use mathlib.Core.Path.{_≡_}
 use mathlib.Core.Bool.{true, false, and-false}
 use mathlib.Core.List.{List}
 use Prim.Native.Nat.{ℕ, _+_, _≤_, _<_}
 use native.Mathlib.Omega.{arith}
-use native.Mathlib.Numerals.{add-one, add-two}
+use native.Mathlib.Numerals.{add-one}
 use lib.ListN.{set}
 use borrow.Author.Tests.{lt-ltb, le-ltb, le-leb, lt-leb}
-use Rattle.image_rules.specs.Node.{nodeWords, nodeCount, nodeStart, isNode, bitmapOf, offsetOf, baseOf, storeNodes, storeNode}
-use Rattle.image_nodes.specs.Words.{threeWords, nodeAt}
+use Rattle.image_rules.specs.Node.{nodeWords, nodeCount, nodeStart, isNode, bitmapOf, offsetOf, storeNodes, storeNode}
+use Rattle.image_nodes.specs.Words.{twoWords, nodeAt}
 use Rattle.image_nodes.specs.Needs.{Lent}
 
 module _ (nodes : List ℕ) (a : ℕ) where
@@ -21,14 +21,14 @@ module _ (nodes : List ℕ) (a : ℕ) where
   pub no-node-past : nodeCount nodes < a → isNode nodes a ≡ false
   no-node-past h = rw (lt-leb a (nodeCount nodes) h, and-false _)
 
-  -- the code's three stores are those of a node
-  pub stored-three : 0 < a → a ≤ nodeCount nodes → (start bitmap offset base : ℕ) → start ≡ nodeStart a
-      → set (set (set nodes start bitmap) (start + 1) offset) (start + 2) base ≡ storeNode nodes a (nodeWords bitmap offset base)
+  -- the code's two stores are those of a node
+  pub stored-two : 0 < a → a ≤ nodeCount nodes → (start bitmap offset : ℕ) → start ≡ nodeStart a
+      → set (set nodes start bitmap) (start + 1) offset ≡ storeNode nodes a (nodeWords bitmap offset)
   unfolding storeNode
-  stored-three h k start bitmap offset base e = rw (lent-node h k, e) (simp (add-one, add-two))
+  stored-two h k start bitmap offset e = rw (lent-node h k, e) (simp add-one)
 
   -- where node a is lent whole
-  pub node-at-lent : Lent nodes a → nodeAt nodes a ≡ threeWords (bitmapOf nodes a) (offsetOf nodes a) (baseOf nodes a)
+  pub node-at-lent : Lent nodes a → nodeAt nodes a ≡ twoWords (bitmapOf nodes a) (offsetOf nodes a)
   unfolding nodeAt
   node-at-lent h = rw (lent-node (h .positive) (h .within))
 

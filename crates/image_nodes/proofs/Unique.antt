@@ -18,10 +18,8 @@ use Rattle.image_nodes.proofs.node_count.Kinds as node-count-kinds
 use Rattle.image_nodes.proofs.node_count.Reads as node-count-reads
 use Rattle.image_nodes.proofs.bitmap_of.Kinds as bitmap-of-kinds
 use Rattle.image_nodes.proofs.bitmap_of.Reads as bitmap-of-reads
-use Rattle.image_nodes.proofs.offset_of.Kinds as offset-of-kinds
-use Rattle.image_nodes.proofs.offset_of.Reads as offset-of-reads
-use Rattle.image_nodes.proofs.base_of.Kinds as base-of-kinds
-use Rattle.image_nodes.proofs.base_of.Reads as base-of-reads
+use Rattle.image_nodes.proofs.next_of.Kinds as next-of-kinds
+use Rattle.image_nodes.proofs.next_of.Reads as next-of-reads
 use Rattle.image_nodes.proofs.node_at.Kinds as node-at-kinds
 use Rattle.image_nodes.proofs.node_at.Reads as node-at-reads
 use Rattle.image_nodes.proofs.store_node.Kinds as store-node-kinds
@@ -51,11 +49,8 @@ node-count-unique κs a x y s t p q = p ∙ sym q
 bitmap-of-unique : Determined 1 bitmap-of-kinds.ps bitmap-of-kinds.r bitmap-of-reads.Post (λ κs x s. x)
 bitmap-of-unique κs a x y s t p q = p ∙ sym q
 
-offset-of-unique : Determined 1 offset-of-kinds.ps offset-of-kinds.r offset-of-reads.Post (λ κs x s. x)
-offset-of-unique κs a x y s t p q = λ i. record { 0 = (p .0 ∙ sym (q .0)) i }
-
-base-of-unique : Determined 1 base-of-kinds.ps base-of-kinds.r base-of-reads.Post (λ κs x s. x)
-base-of-unique κs a x y s t p q = λ i. record { 0 = (p .0 ∙ sym (q .0)) i }
+next-of-unique : Determined 1 next-of-kinds.ps next-of-kinds.r next-of-reads.Post (λ κs x s. x)
+next-of-unique κs a x y s t p q = λ i. record { 0 = (p .0 ∙ sym (q .0)) i }
 
 node-at-unique : Determined 1 node-at-kinds.ps node-at-kinds.r node-at-reads.Post (λ κs x s. x)
 node-at-unique κs a x y s t p q = p ∙ sym q

@@ -2,7 +2,7 @@
 // words of a node are.
 ghost use mathlib.Core.Path.{_≡_};
 ghost use Prim.Native.Nat.{_+_, _-_, _%_, _^_, _≤_, _<_};
-ghost use Rattle.image_rules.specs.Node.{nodeCount, nodeStart, bitmapOf, offsetOf, baseOf, storeNode};
+ghost use Rattle.image_rules.specs.Node.{nodeCount, nodeStart, bitmapOf, nextOf, storeNode};
 ghost use Rattle.image_rules.specs.Lookup.{isStride};
 ghost use Rattle.image_nodes.specs.Words.{nodeAt, wordsOfNode};
 ghost use Rattle.image_nodes.specs.Slots.{slotsOf};
@@ -18,13 +18,12 @@ pub struct Distance(pub usize);
 pub struct Leaf(pub usize);
 
 // The words of a node.
-pub const NODE_SIZE: usize = 3;
+pub const NODE_SIZE: usize = 2;
 
-// A node's words. A builder keeps a node that is still to be built in the same three.
+// A node's words. A builder keeps a node that is still to be built in the same two.
 pub struct NodeWords {
     pub bitmap: u32,
     pub offset: u32,
-    pub base: u32,
 }
 
 impl Node {
@@ -104,7 +103,7 @@ fn start_of(at: Node) -> usize
     (at.0 - 1) * NODE_SIZE
 }
 
-// The bitmap of a node that is lent whole. This and the next two are for a lookup, which has tested the number itself just before: a
+// The bitmap of a node that is lent whole. This and the next are for a lookup, which has tested the number itself just before: a
 // second test at each node cost up to 8 % at stride 1.
 pub fn bitmap_of(nodes: &[u32], at: Node) -> u32
     requires { ⌜ Lent (now nodes) (at .0) ⌝ }
@@ -113,20 +112,12 @@ pub fn bitmap_of(nodes: &[u32], at: Node) -> u32
     nodes[start_of(at)]
 }
 
-// The offset of a node that is lent whole.
-pub fn offset_of(nodes: &[u32], at: Node) -> Distance
+// The next unused node number at a node that is lent whole, by its offset: the number of its first child, where it has one.
+pub fn next_of(nodes: &[u32], at: Node) -> Node
     requires { ⌜ Lent (now nodes) (at .0) ⌝ }
-    ensures { λ r. ⌜ (r .0 ≡ offsetOf (now (nodes .entry)) (at .0)) × (r .0 < 2 ^ 32) ⌝ }
+    ensures { λ r. ⌜ (r .0 ≡ nextOf (now (nodes .entry)) (at .0)) × (r .0 < 2 ^ 62) ⌝ }
 {
-    Distance(wide(nodes[start_of(at) + 1]))
-}
-
-// The leaf base of a node that is lent whole.
-pub fn base_of(nodes: &[u32], at: Node) -> Leaf
-    requires { ⌜ Lent (now nodes) (at .0) ⌝ }
-    ensures { λ r. ⌜ (r .0 ≡ baseOf (now (nodes .entry)) (at .0)) × (r .0 < 2 ^ 32) ⌝ }
-{
-    Leaf(wide(nodes[start_of(at) + 2]))
+    at.plus(Distance(wide(nodes[start_of(at) + 1])))
 }
 
 // The words of a node; zeros where it is not lent whole.
@@ -138,21 +129,18 @@ pub fn node_at(nodes: &[u32], at: Node) -> NodeWords
         return NodeWords {
             bitmap: 0,
             offset: 0,
-            base: 0,
         };
     }
     if node_count(nodes) < a {
         return NodeWords {
             bitmap: 0,
             offset: 0,
-            base: 0,
         };
     }
     let start = start_of(at);
     NodeWords {
         bitmap: nodes[start],
         offset: nodes[start + 1],
-        base: nodes[start + 2],
     }
 }
 
@@ -170,5 +158,4 @@ pub fn store_node(nodes: &mut [u32], at: Node, x: NodeWords)
     let start = start_of(at);
     nodes[start] = x.bitmap;
     nodes[start + 1] = x.offset;
-    nodes[start + 2] = x.base;
 }

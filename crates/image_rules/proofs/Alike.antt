@@ -6,7 +6,7 @@ use Prim.Native.Nat.{ℕ, zero, suc, _+_, _*_, _^_}
 use lib.ListN.{length}
 use Rattle.lists.specs.Flat.{flat}
 use Rattle.image_rules.specs.Node.{nodeWords, offset}
-use Rattle.image_rules.specs.Breadth.{Slot, leaf, nonLeaf, slotPorts, slotChildren, leafBit, bitmap, children, leafPorts, levels, words, treePorts}
+use Rattle.image_rules.specs.Breadth.{Slot, leaf, nonLeaf, slotPorts, slotChildren, leafBit, bitmap, children, levels, words, treePorts}
 
 -- element by element
 module _ {A B : Type 0} (R : A → B → Type 0) where
@@ -97,19 +97,14 @@ module _ {X Y : Type 0} (R : X → Y → Type 0) where
     tree-ports-alike (x ∷ xs) (y ∷ ys) h =
         ap₂ (λ (k l : List ℕ). k ++ l) (ports-alike (sx x) (sy y) (alike x y (h .0))) (tree-ports-alike xs ys (h .1))
 
-    pub words-alike : (own first base : ℕ) (xs : List X) (ys : List Y) → Each R xs ys
-        → words sx own first base xs ≡ words sy own first base ys
-    words-alike own first base [] [] h = refl
-    words-alike own first base [] (y ∷ ys) h = absurd h
-    words-alike own first base (x ∷ xs) [] h = absurd h
-    words-alike own first base (x ∷ xs) (y ∷ ys) h =
+    pub words-alike : (own next : ℕ) (xs : List X) (ys : List Y) → Each R xs ys → words sx own next xs ≡ words sy own next ys
+    words-alike own next [] [] h = refl
+    words-alike own next [] (y ∷ ys) h = absurd h
+    words-alike own next (x ∷ xs) [] h = absurd h
+    words-alike own next (x ∷ xs) (y ∷ ys) h =
         let a = alike x y (h .0) in
         let c : length (children sx x) ≡ length (children sy y) =
         length-each R (children sx x) (children sy y) (children-alike (sx x) (sy y) a) in
-        let p : length (leafPorts sx x) ≡ length (leafPorts sy y) = ap length (ports-alike (sx x) (sy y) a) in
-        ap₂ (λ (b m : ℕ). nodeWords b (offset m first own) base ++ words sx (own + 1) (first + m) (base + length (leafPorts sx x)) xs)
-        (bitmap-alike (sx x) (sy y) a) c
-        ∙ ap (λ (m : ℕ). nodeWords (bitmap (sy y)) (offset (length (children sy y)) first own) base
-        ++ words sx (own + 1) (first + length (children sy y)) (base + m) xs) p
-        ∙ ap (λ (ws : List ℕ). nodeWords (bitmap (sy y)) (offset (length (children sy y)) first own) base ++ ws)
-        (words-alike (own + 1) (first + length (children sy y)) (base + length (leafPorts sy y)) xs ys (h .1))
+        ap₂ (λ (b m : ℕ). nodeWords b (offset next own) ++ words sx (own + 1) (next + m) xs) (bitmap-alike (sx x) (sy y) a) c
+        ∙ ap (λ (ws : List ℕ). nodeWords (bitmap (sy y)) (offset next own) ++ ws)
+        (words-alike (own + 1) (next + length (children sy y)) xs ys (h .1))

@@ -1,31 +1,33 @@
--- A built image has one node for each path in it; a node's offset leads to its first child, and its leaf base counts the leaves before
--- it: RULES, "Nodes". Assumes nothing.
+-- A built image has one node for each path in it; a node's offset leads to the next unused number, its first child's, its leaf base
+-- counts the leaves before it, and no lookup refuses it: RULES, "Nodes". Assumes nothing.
 use mathlib.Core.Path.{_≡_, refl, sym, ap, ap₂, subst, _∙_}
 use mathlib.Core.Logic.{⊎-elim}
 use mathlib.Core.Bool.{Bool, true, false, cond}
-use mathlib.Core.List.{List, [], _∷_, _++_, append-nil}
+use mathlib.Core.List.{List, [], _∷_, _++_}
 use Prim.Native.Nat.{ℕ, zero, suc, _+_, _-_, _/_, _^_, _≤_, _<_}
 use native.Mathlib.Omega.{arith}
-use native.Mathlib.Nat.{add-zero, div-one}
+use native.Mathlib.Nat.{div-one}
 use lib.ListN.{length, getD, take, drop, length-append}
 use lib.Seq.{take-at, drop-at}
 use Rattle.bits.specs.Bits.{Bits, bits}
-use Rattle.bits.specs.Bitmap.{slotBit, zerosBefore, slotsWith}
+use Rattle.bits.specs.Bitmap.{zerosBefore, slotsWith}
 use Rattle.bits.proofs.Bits.{prefix-unique}
 use Rattle.bits.proofs.Bitmap.{ones-before-counts, zeros-before-counts, slots-with-none}
 use Rattle.lists.specs.Flat.{flat, upto}
-use Rattle.lists.proofs.Flat.{flat-at, upto-suc, upto-append}
+use Rattle.lists.proofs.Flat.{flat-at, upto-suc}
 use Rattle.lists.proofs.Tests.{lt-or-le}
 use Rattle.trie.specs.Routes.{Route}
 use Rattle.trie.specs.Scan.{scanList}
-use Rattle.image_rules.specs.Node.{bitmapOf, offsetOf, baseOf, offset}
+use Rattle.image_rules.specs.Node.{bitmapOf, nextOf, baseOf}
 use Rattle.image_rules.specs.Breadth.{Slot, leaf, nonLeaf, slotPorts, slotChildren, bitmap, children, leafPorts}
 use Rattle.image_rules.specs.Image.{someLonger, slotOf, slotBits, slots, imagePaths, imageNodes, pathOf}
 use Rattle.image_rules.specs.Lookup.{childAt}
-use Rattle.image_rules.specs.Built.{NodesDistinct, OffsetNone, OffsetFirst, leavesUpTo, LeafBaseRule}
-use Rattle.image_rules.proofs.Counts.{bitmap-lt, ones-before-bitmap, zeros-before-bitmap}
-use Rattle.image_rules.proofs.Words.{bitmap-is, offset-is, base-is}
-use Rattle.image_rules.proofs.Slots.{length-slots, slot-is, length-slot-bits, paths-numbered, first-child-after, stored-small}
+use Rattle.image_rules.specs.Built.{NodesDistinct, OffsetFirst, slotsUpTo, leavesUpTo, childrenUpTo, NextRule, LeafBaseRule, NodesSound}
+use Rattle.image_rules.specs.NodesRead.{Sound}
+use Rattle.image_rules.proofs.Counts.{upto-all, bitmap-lt, ones-before-bitmap, zeros-before-bitmap}
+use Rattle.image_rules.proofs.Sound.{sound-is}
+use Rattle.image_rules.proofs.Words.{bitmap-is, next-is, base-is}
+use Rattle.image_rules.proofs.Slots.{length-slots, slot-is, length-slot-bits, image-tree, paths-numbered, stored-small, stored-sound}
 use Rattle.image_rules.proofs.Image.{deep-root, alone, node-number, stride-pos, child-rule}
 
 -- what stands at a place of all that elements give comes from one of them
@@ -45,11 +47,6 @@ flat-from f d (x ∷ xs) m h =
     let r = flat-from f d xs (m - length (f x)) (omega (arith, length-append (f x) (flat f xs))) in
     record { at = suc (r .at); rank = r .rank; stored = omega (arith, r .stored); few = r .few; place = omega (arith, r .place) })
     (lt-or-le m (length (f x)))
-
-upto-all : {A B : Type 0} (f : A → List B) (xs : List A) → upto f xs (length xs) ≡ length (flat f xs)
-upto-all {A} {B} f xs =
-    ap₂ (λ (l : List A) (n : ℕ). upto f l n) (sym (append-nil xs)) (sym (add-zero (length xs)))
-    ∙ upto-append f xs [] 0 ∙ add-zero (length (flat f xs))
 
 -- a slot's bits are those of one node and one slot
 slot-bits-unique : (s : ℕ) (p q : Bits) (i j : ℕ) → i < 2 ^ s → j < 2 ^ s → slotBits s p i ≡ slotBits s q j → (p ≡ q) × (i ≡ j)
@@ -158,7 +155,7 @@ nodes-distinct w s rs a b st ok t t′ e =
     let x = node-number s K rs a t in
     let y = node-number s K rs b t′ in
     let i : a - 1 ≡ b - 1 =
-    paths-unique rs s K (paths-numbered rs s w (ok .short) K d) (stride-pos s (st .stride)) (first-child-after rs s w (ok .short) K d)
+    paths-unique rs s K (paths-numbered rs s w (ok .short) K d) (stride-pos s (st .stride)) (image-tree rs s K .before)
     (suc (a - 1)) (a - 1) (b - 1) (omega arith) (x .1) (y .1) e in
     omega (arith, x .0, y .0, i)
 
@@ -183,7 +180,7 @@ module _ (s k : ℕ) (rs : List Route) where
 
   module _ (i : ℕ) (h : i < length (imagePaths s k rs)) where
     map-is : bitmapOf lent (suc i) ≡ bitmap (slots rs s (pathAt i))
-    map-is = bitmap-is (slots rs s) (imagePaths s k rs) [] [] [] i h
+    map-is = bitmap-is (slots rs s) (2 ^ s) (imagePaths s k rs) [] (image-tree rs s k) [] [] i h
 
     -- the count of a bit by the slots themselves is the count by the node's words
     count-in : (b c : ℕ)
@@ -199,41 +196,48 @@ module _ (s k : ℕ) (rs : List Route) where
     children-in : slotsWith (2 ^ s) (bitmapOf lent (suc i)) 0 (2 ^ s) ≡ length (children (slots rs s) (pathAt i))
     children-in = count-in 0 (length (children (slots rs s) (pathAt i))) (children-of (slots rs s (pathAt i)))
 
-    childless : ((j : ℕ) → j < 2 ^ s → slotBit (2 ^ s) (bitmapOf lent (suc i)) j ≡ 1) → offsetOf lent (suc i) ≡ 0
-    childless leaves =
-        let none : slotsWith (2 ^ s) (bitmapOf lent (suc i)) 0 (2 ^ s) ≡ 0 =
-        slots-with-none (2 ^ s) (bitmapOf lent (suc i)) 0 (2 ^ s) (λ j l z. omega (arith, leaves j l)) in
-        let e : length (children (slots rs s) (pathAt i)) ≡ 0 = sym children-in ∙ none in
-        offset-is (slots rs s) (imagePaths s k rs) [] [] [] i h
-        ∙ ap (λ (n : ℕ). offset n (2 + upto (children (slots rs s)) (imagePaths s k rs) i) (1 + i)) e
-
-  leaves-up-to : (a : ℕ) → a ≤ length (imagePaths s k rs) → leavesUpTo s lent a ≡ upto (leafPorts (slots rs s)) (imagePaths s k rs) a
-  leaves-up-to zero h = sym (upto-none (imagePaths s k rs))
+  -- the slots with bit b of the first nodes are what f gives for them, if they are so of each
+  slots-up-to : {B : Type 0} (b : ℕ) (f : Bits → List B)
+      → ((i : ℕ) → i < length (imagePaths s k rs) → slotsWith (2 ^ s) (bitmapOf lent (suc i)) b (2 ^ s) ≡ length (f (pathAt i)))
+      → (a : ℕ) → a ≤ length (imagePaths s k rs) → slotsUpTo b s lent a ≡ upto f (imagePaths s k rs) a
+  slots-up-to b f each zero h = sym (upto-none (imagePaths s k rs))
     where
-      upto-none : (xs : List Bits) → upto (leafPorts (slots rs s)) xs 0 ≡ 0
+      upto-none : (xs : List Bits) → upto f xs 0 ≡ 0
       upto-none [] = refl
       upto-none (x ∷ xs) = refl
-  leaves-up-to (suc a) h =
+  slots-up-to b f each (suc a) h =
       omega (
         arith,
-        leaves-up-to a (omega arith),
-        leaves-in a (omega arith),
-        upto-suc (leafPorts (slots rs s)) (imagePaths s k rs) a [] (omega arith),
+        slots-up-to b f each a (omega arith),
+        each a (omega arith),
+        upto-suc f (imagePaths s k rs) a [] (omega arith),
       )
+
+  leaves-up-to : (a : ℕ) → a ≤ length (imagePaths s k rs) → leavesUpTo s lent a ≡ upto (leafPorts (slots rs s)) (imagePaths s k rs) a
+  leaves-up-to = slots-up-to 1 (leafPorts (slots rs s)) leaves-in
+
+  children-up-to : (a : ℕ) → a ≤ length (imagePaths s k rs) → childrenUpTo s lent a ≡ upto (children (slots rs s)) (imagePaths s k rs) a
+  children-up-to = slots-up-to 0 (children (slots rs s)) children-in
+
+pub next-rule : NextRule
+next-rule s k rs a t =
+    let h : a < length (imagePaths s k rs) = omega (arith, node-number s k rs (suc a) t .1) in
+    alone (λ ws. nextOf ws (suc a) ≡ 2 + childrenUpTo s ws a) (imageNodes s k rs)
+    (next-is (slots rs s) (2 ^ s) (imagePaths s k rs) [] (image-tree rs s k) [] [] a h
+    ∙ ap (λ (n : ℕ). 2 + n) (sym (children-up-to s k rs a (omega arith))))
 
 pub leaf-base-rule : LeafBaseRule
 leaf-base-rule s k rs a t =
     let h : a < length (imagePaths s k rs) = omega (arith, node-number s k rs (suc a) t .1) in
-    alone (λ ws. baseOf ws (suc a) ≡ leavesUpTo s ws a) (imageNodes s k rs)
-    (base-is (slots rs s) (imagePaths s k rs) [] [] [] a h ∙ sym (leaves-up-to s k rs a (omega arith)))
+    alone (λ ws. baseOf (2 ^ s) ws (suc a) ≡ leavesUpTo s ws a) (imageNodes s k rs)
+    (base-is (slots rs s) (2 ^ s) (imagePaths s k rs) [] (image-tree rs s k) [] [] a h ∙ sym (leaves-up-to s k rs a (omega arith)))
 
-pub offset-none : OffsetNone
-offset-none s k rs a t leaves =
+pub nodes-sound : NodesSound
+nodes-sound s k rs a t =
     let n = node-number s k rs a t in
-    subst (λ (b : ℕ). ((j : ℕ) → j < 2 ^ s → slotBit (2 ^ s) (bitmapOf (imageNodes s k rs) b) j ≡ 1) → offsetOf (imageNodes s k rs) b ≡ 0) (n .0)
-    (alone (λ ws. ((j : ℕ) → j < 2 ^ s → slotBit (2 ^ s) (bitmapOf ws (suc (a - 1))) j ≡ 1) → offsetOf ws (suc (a - 1)) ≡ 0)
-    (imageNodes s k rs) (childless s k rs (a - 1) (n .1)))
-    leaves
+    subst (Sound s (imageNodes s k rs)) (n .0)
+    (alone (λ ws. Sound s ws (suc (a - 1))) (imageNodes s k rs)
+    (sound-is s (imageNodes s k rs ++ []) (suc (a - 1)) (stored-sound s k rs [] [] (a - 1) (n .1))))
 
 pub offset-first : OffsetFirst
 offset-first w s rs a j c st ok t first t′ e =
@@ -242,7 +246,7 @@ offset-first w s rs a j c st ok t first t′ e =
     let n = node-number s K rs a t in
     let small : bitmapOf nodes a < 2 ^ (2 ^ s) =
     subst (λ (b : ℕ). bitmapOf nodes b < 2 ^ (2 ^ s)) (n .0)
-    (alone (λ ws. bitmapOf ws (suc (a - 1)) < 2 ^ (2 ^ s)) nodes (stored-small s K rs [] [] (a - 1) (n .1) j (first .in-node))) in
+    (alone (λ ws. bitmapOf ws (suc (a - 1)) < 2 ^ (2 ^ s)) nodes (stored-small s K rs [] [] (a - 1) (n .1))) in
     let z : zerosBefore (2 ^ s) (bitmapOf nodes a) j ≡ 0 =
     zeros-before-counts (2 ^ s) (bitmapOf nodes a) j (omega (arith, first .in-node)) small
     ∙ slots-with-none (2 ^ s) (bitmapOf nodes a) 0 j (λ i l b. omega (arith, first .leaves-before i l)) in

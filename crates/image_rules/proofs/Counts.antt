@@ -1,16 +1,21 @@
 -- The bitmap of a node's slots: the ones before a slot are the leaves before it, the zeros the non-leaves. Assumes nothing.
-use mathlib.Core.Path.{_≡_, refl, ap, ap₂, _∙_}
-use mathlib.Core.List.{List, [], _∷_}
-use Prim.Native.Nat.{ℕ, zero, suc, _+_, _-_, _/_, _^_, _≤_, _<_}
+use mathlib.Core.Path.{_≡_, refl, sym, ap, ap₂, _∙_}
+use mathlib.Core.List.{List, [], _∷_, append-nil}
+use Prim.Native.Nat.{ℕ, zero, suc, _+_, _-_, _*_, _/_, _^_, _≤_, _<_}
 use native.Mathlib.Omega.{arith}
-use native.Mathlib.Nat.{div-eq-of-lt, pow-suc}
+use native.Mathlib.Nat.{add-zero, mul-comm, mul-suc, mul-zero, div-eq-of-lt, pow-suc}
 use lib.Count.{ones, onesIn}
 use lib.ListN.{length, getD}
 use Rattle.bits.specs.Bitmap.{slotBit, onesBefore, zerosBefore}
 use Rattle.bits.proofs.Bitmap.{ones-before-suc, ones-above}
 use Rattle.lists.specs.Flat.{flat, upto}
-use Rattle.image_rules.specs.Breadth.{Slot, leaf, nonLeaf, slotPorts, slotChildren, leafBit, bitmap}
-use Rattle.lists.proofs.Flat.{upto-suc}
+use Rattle.image_rules.specs.Breadth.{Slot, leaf, nonLeaf, slotPorts, slotChildren, leafBit, bitmap, children, leafPorts, treePorts}
+use Rattle.lists.proofs.Flat.{upto-suc, upto-append}
+
+pub upto-all : {A B : Type 0} (f : A → List B) (xs : List A) → upto f xs (length xs) ≡ length (flat f xs)
+upto-all {A} {B} f xs =
+    ap₂ (λ (l : List A) (n : ℕ). upto f l n) (sym (append-nil xs)) (sym (add-zero (length xs)))
+    ∙ upto-append f xs [] 0 ∙ add-zero (length (flat f xs))
 
 module _ {X : Type 0} where
   -- a slot is a leaf or a non-leaf
@@ -72,7 +77,27 @@ module _ {X : Type 0} where
       )
 
   -- every slot of a node holds a port or a child
-  pub slots-count : (os : List (Slot X)) → length (flat slotPorts os) + length (flat slotChildren os) ≡ length os
+  slots-count : (os : List (Slot X)) → length (flat slotPorts os) + length (flat slotChildren os) ≡ length os
   slots-count [] = refl
   slots-count (leaf p ∷ os) = omega (arith, slots-count os)
   slots-count (nonLeaf y ∷ os) = omega (arith, slots-count os)
+
+-- nodes of n slots each
+module _ {X : Type 0} (slots : X → List (Slot X)) (n : ℕ) (whole : (x : X) → length (slots x) ≡ n) where
+  -- every slot of the first i holds a port or a child
+  pub slots-upto : (xs : List X) (i : ℕ) → i ≤ length xs → upto (leafPorts slots) xs i + upto (children slots) xs i ≡ n * i
+  slots-upto [] zero h = sym (mul-zero n)
+  slots-upto [] (suc i) h = absurd (omega arith)
+  slots-upto (x ∷ xs) zero h = sym (mul-zero n)
+  slots-upto (x ∷ xs) (suc i) h = omega (arith, slots-count (slots x), whole x, slots-upto xs i (omega arith), mul-suc n i)
+
+  -- and every slot of all
+  pub ports-and-children : (xs : List X) → length (treePorts slots xs) + length (flat (children slots) xs) ≡ length xs * n
+  ports-and-children xs =
+      omega (
+        arith,
+        upto-all (leafPorts slots) xs,
+        upto-all (children slots) xs,
+        slots-upto xs (length xs) (omega arith),
+        mul-comm n (length xs),
+      )

@@ -19,7 +19,7 @@ use Rattle.image_rules.specs.Lookup.{addressSlot, leafOf, walk}
 use Rattle.bits.proofs.Digits.{bits-level, take-level, drop-level}
 use Rattle.image_rules.proofs.Longer.{scan-more, scan-le}
 use Rattle.image_rules.proofs.Walk.{leaf-at-is, walk-leaf, walk-child}
-use Rattle.image_rules.proofs.Slots.{Deep, deep-slot, paths-numbered, first-child-after, stored-node, stored-small, leaf-bit, leaf-number-lt, leaf-port, child-bit, child-stored}
+use Rattle.image_rules.proofs.Slots.{Deep, deep-slot, paths-numbered, stored-node, stored-sound, leaf-bit, leaf-number-lt, leaf-port, child-bit, child-stored}
 
 -- the walk down an image
 module _ (w s K : ℕ) (rs : List Route) (more extra : List ℕ) (addr : ℕ)
@@ -59,7 +59,7 @@ module _ (w s K : ℕ) (rs : List Route) (more extra : List ℕ) (addr : ℕ)
         ≡ found (scanList rs (at ++ bits (s * suc k) addr)) (reads + (passed rs s (suc k) at (bits (s * suc k) addr) + 1))
     leaf-turn t =
         walk-leaf s (imageNodes s K rs ++ more) (imagePorts s K rs ++ extra) addr k (suc i) reads
-        (stored-node s K rs more extra i h j lj) (stored-small s K rs more extra i h j lj) (leaf-bit s K rs more extra i h j lj t)
+        (stored-node s K rs more extra i h) (stored-sound s K rs more extra i h) (leaf-bit s K rs more extra i h j lj t)
         ∙ leaf-at-is (imagePorts s K rs ++ extra) (leafOf (2 ^ s) (imageNodes s K rs ++ more) (suc i) j) (scanList rs slot) (reads + 1)
         (leaf-number-lt s K rs more extra i h j lj t) (leaf-port s K rs more extra i h j lj t) (scan-le rs slot lastPort low)
         ∙ ap₂ found
@@ -71,10 +71,10 @@ module _ (w s K : ℕ) (rs : List Route) (more extra : List ℕ) (addr : ℕ)
         → walk s (imageNodes s K rs ++ more) (imagePorts s K rs ++ extra) addr (suc k) (suc i) reads
         ≡ found (scanList rs (at ++ bits (s * suc k) addr)) (reads + (passed rs s (suc k) at (bits (s * suc k) addr) + 1))
     child-turn t e ih =
-        let c = child-stored s K rs more extra i h j lj t (paths-numbered rs s w short K d) (first-child-after rs s w short K d i h) in
+        let c = child-stored s K rs more extra i h j lj t (paths-numbered rs s w short K d) in
         let x = c .is in
         walk-child s (imageNodes s K rs ++ more) (imagePorts s K rs ++ extra) addr k (suc i) reads
-        (stored-node s K rs more extra i h j lj) (stored-small s K rs more extra i h j lj) (child-bit s K rs more extra i h j lj t)
+        (stored-node s K rs more extra i h) (stored-sound s K rs more extra i h) (child-bit s K rs more extra i h j lj t)
         ∙ ap (λ (a : ℕ). walk s (imageNodes s K rs ++ more) (imagePorts s K rs ++ extra) addr k a (reads + 1)) (c .number)
         ∙ ih (c .at) (reads + 1) (c .stored) (subst (Deep rs s w short k) (sym x) (deep-slot rs s w short k at j e t))
         ∙ ap₂ found

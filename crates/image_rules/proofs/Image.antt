@@ -2,12 +2,12 @@
 use mathlib.Core.Path.{_≡_, refl, sym, ap, _∙_, subst}
 use mathlib.Core.Logic.{⊎-elim}
 use mathlib.Core.Bool.{Bool, true, false, cond, true≢false}
-use mathlib.Core.List.{List, [], _∷_, _++_, append-nil}
+use mathlib.Core.List.{List, [], _++_, append-nil}
 use Prim.Native.Nat.{ℕ, zero, suc, _+_, _-_, _*_, _/_, _^_, _≤_, _<_}
 use native.Mathlib.Omega.{arith}
-use native.Mathlib.Nat.{mul-zero, div-add-mod', mul-comm, suc-mul, mul-suc}
+use native.Mathlib.Nat.{mul-zero, div-add-mod', mul-comm, mul-suc}
 use lib.Dec.{ltb, leb}
-use lib.ListN.{length, getD, drop, length-append}
+use lib.ListN.{length, getD, drop}
 use lib.Pow.{pow-pos}
 use borrow.Author.Tests.{ltb-true, leb-true}
 use Rattle.bits.specs.Bits.{Bits, bits}
@@ -17,17 +17,16 @@ use Rattle.trie.specs.Routes.{Route}
 use Rattle.trie.specs.Scan.{scanList}
 use Rattle.trie.proofs.Listed.{scan-list-is-scan}
 use Rattle.trie.proofs.Routes.{none-or-some}
-use Rattle.lists.specs.Flat.{flat}
 use Rattle.image_rules.specs.Node.{nodeCount, isNode, bitmapOf}
-use Rattle.image_rules.specs.Breadth.{leaf, nonLeaf, leafBit, children, leafPorts, treePorts}
+use Rattle.image_rules.specs.Breadth.{leaf, nonLeaf, leafBit, children}
 use Rattle.image_rules.specs.Image.{someLonger, slotOf, slotBits, slots, imagePaths, imageNodes, imagePorts, passed, Imaged, pathOf}
 use Rattle.image_rules.specs.Lookup.{leafOf, childAt, isStride, lookupWords, Strided}
 use Rattle.refusals.specs.Refusals.{found}
 use Rattle.image_rules.specs.Theorems.{LookupIsScan, Numbered, PortsCount, SlotRule, LeafRule, ChildRule}
-use Rattle.image_rules.proofs.Counts.{slots-count}
+use Rattle.image_rules.proofs.Counts.{ports-and-children}
 use Rattle.image_rules.proofs.Longer.{some-longer→, some-longer, scan-more}
 use Rattle.image_rules.proofs.Words.{length-words, Numbers}
-use Rattle.image_rules.proofs.Slots.{length-slots, Deep, paths-numbered, first-child-after, stored-node, stored-bit, leaf-port, child-stored}
+use Rattle.image_rules.proofs.Slots.{length-slots, Deep, paths-numbered, stored-node, stored-bit, leaf-port, child-stored}
 use Rattle.image_rules.proofs.Descent.{walked-root}
 
 -- a stride takes off bits, and whole strides make the width
@@ -62,32 +61,14 @@ lookup-is-scan w s rs nodes ports a st ok =
 pub numbered : Numbered
 numbered w s rs st ok = paths-numbered rs s w (ok .short) (w / s) (deep-root st rs ok)
 
--- how many ports
-module _ (rs : List Route) (s : ℕ) where
-  pub ports-and-children : (qs : List Bits)
-      → length (treePorts (slots rs s) qs) + length (flat (children (slots rs s)) qs) ≡ length qs * 2 ^ s
-  ports-and-children [] = omega arith
-  ports-and-children (q ∷ qs) =
-      let f = leafPorts (slots rs s) in
-      let g = children (slots rs s) in
-      omega (
-        arith,
-        length-append (f q) (flat f qs),
-        length-append (g q) (flat g qs),
-        slots-count (slots rs s q),
-        length-slots rs s q,
-        ports-and-children qs,
-        suc-mul (length qs) (2 ^ s),
-      )
-
 pub ports-count : PortsCount
 ports-count w s rs st ok =
     let qs = imagePaths s (w / s) rs in
     let c = children (slots rs s) in
     let p : 0 < 2 ^ s = pow-pos s in
     let m : length qs * 2 ^ s ≡ length qs * (2 ^ s - 1) + length qs = mul-pred (length qs) (2 ^ s) p in (
-      length-words (slots rs s) 1 2 0 qs,
-      omega (arith, ports-and-children rs s qs, ap length (numbered w s rs st ok), m),
+      length-words (slots rs s) 1 2 qs,
+      omega (arith, ports-and-children (slots rs s) (2 ^ s) (length-slots rs s) qs, ap length (numbered w s rs st ok), m),
     )
   where
     mul-pred : (m n : ℕ) → 0 < n → m * n ≡ m * (n - 1) + m
@@ -101,7 +82,7 @@ node-number s k rs a t =
     let b = both (ltb 0 a) (leb a (nodeCount (imageNodes s k rs))) t in
     let some : 0 < a = ltb-true 0 a (b .0) in
     let most : a ≤ nodeCount (imageNodes s k rs) = leb-true a (nodeCount (imageNodes s k rs)) (b .1) in
-    (omega arith, omega (arith, length-words (slots rs s) 1 2 0 (imagePaths s k rs)))
+    (omega arith, omega (arith, length-words (slots rs s) 1 2 (imagePaths s k rs)))
 
 -- the words of the image alone, for any fact of the words lent
 pub alone : (P : List ℕ → Type 0) (words : List ℕ) → P (words ++ []) → P words
@@ -167,9 +148,9 @@ child-rule w s rs a j st ok t l z =
     let c : Numbers (imagePaths s K rs) [] (childAt (2 ^ s) (imageNodes s K rs) a j) q =
     here s K rs a j t l (λ ws b. Numbers (imagePaths s K rs) [] (childAt (2 ^ s) ws b j) q)
     (child-stored s K rs [] [] (a - 1) i j l (bit-zero s K rs a j t l z)
-    (paths-numbered rs s w (ok .short) K d) (first-child-after rs s w (ok .short) K d (a - 1) i)) in
+    (paths-numbered rs s w (ok .short) K d)) in
     let e : childAt (2 ^ s) (imageNodes s K rs) a j - 1 ≡ c .at = omega (arith, c .number) in (
       subst (λ (b : ℕ). isNode (imageNodes s K rs) b ≡ true) (sym (c .number))
-          (alone (λ ws. isNode ws (suc (c .at)) ≡ true) (imageNodes s K rs) (stored-node s K rs [] [] (c .at) (c .stored) j l)),
+          (alone (λ ws. isNode ws (suc (c .at)) ≡ true) (imageNodes s K rs) (stored-node s K rs [] [] (c .at) (c .stored))),
       ap (λ (n : ℕ). getD (imagePaths s K rs) n []) e ∙ c .is,
     )

@@ -4,6 +4,7 @@ pub mod Counts
 pub mod Longer
 pub mod Words
 pub mod Walk
+pub mod Sound
 pub mod Slots
 pub mod Descent
 pub mod Image

@@ -20,8 +20,9 @@ use Rattle.refusals.specs.Refusals.{notInOrder, wrongStride, found, lost}
 use Rattle.refusals.specs.declared.found.Found.{Found}
 use Rattle.routes.specs.Bounds.{lastPort}
 use Rattle.image_rules.specs.Node.{isNode, bitmapOf}
-use Rattle.image_rules.specs.Lookup.{addressSlot, leafOf, childAt, leafAt, walk, isStride, lookupWords}
+use Rattle.image_rules.specs.Lookup.{addressSlot, leafOf, childAt, leafAt, isSound, walk, isStride, lookupWords}
 use Rattle.image_rules.specs.NodesRead.{slotOn, nodeOn, GoesOn, LeafNumber, EndsAt, NodesRead, IsStride, ReadsAndNumber, LookupReads, ReadsUnique, SlotOnIs}
+use Rattle.image_rules.proofs.Sound.{sound-is, unsound-is, sound-or-not}
 use Rattle.image_rules.proofs.Image.{strides-make}
 
 -- a leaf's number, and that it is the one
@@ -68,9 +69,9 @@ module _ (w s : ℕ) (nodes ports : List ℕ) (addr : ℕ) where
     abbrev j : ℕ
     j = slotOn w s addr p
 
-    turn : (next : Found) → (GoesOn s nodes a j → Says next) → (node small one : Bool)
-        → isNode nodes a ≡ node → ltb (bitmapOf nodes a) (2 ^ (2 ^ s)) ≡ small → eqb (slotBit (2 ^ s) (bitmapOf nodes a) j) 1 ≡ one
-        → Says (cond node (cond small (cond one (leafAt ports (leafOf (2 ^ s) nodes a j) (r + 1)) next) (lost notInOrder (r + 1))) (lost notInOrder r))
+    turn : (next : Found) → (GoesOn s nodes a j → Says next) → (node sound one : Bool)
+        → isNode nodes a ≡ node → isSound s nodes a ≡ sound → eqb (slotBit (2 ^ s) (bitmapOf nodes a) j) 1 ≡ one
+        → Says (cond node (cond sound (cond one (leafAt ports (leafOf (2 ^ s) nodes a j) (r + 1)) next) (lost notInOrder (r + 1))) (lost notInOrder r))
     turn next goes true true true n b o =
         leaf-says ports (leafOf (2 ^ s) nodes a j) (r + 1) Says (λ m q says. record {
           levels-passed = p;
@@ -78,7 +79,7 @@ module _ (w s : ℕ) (nodes ports : List ℕ) (addr : ℕ) where
           ends = inl (record {
             level = level;
             is-read = n;
-            in-order = ltb-true (bitmapOf nodes a) (2 ^ (2 ^ s)) b;
+            sound = sound-is s nodes a b;
             is-leaf = eqb-true (slotBit (2 ^ s) (bitmapOf nodes a) j) 1 o;
             reads = omega (arith, at);
             number = says;
@@ -86,19 +87,19 @@ module _ (w s : ℕ) (nodes ports : List ℕ) (addr : ℕ) where
         })
     turn next goes true true false n b o =
         let other : (slotBit (2 ^ s) (bitmapOf nodes a) j ≡ 1 → ⊥) = eqb-false (slotBit (2 ^ s) (bitmapOf nodes a) j) 1 o in
-        goes (record { is-read = n; in-order = ltb-true (bitmapOf nodes a) (2 ^ (2 ^ s)) b; non-leaf = omega arith })
+        goes (record { is-read = n; sound = sound-is s nodes a b; non-leaf = omega arith })
     turn next goes true false one n b o = record {
       levels-passed = p;
       went-on = on;
       ends = inr (inl (record {
         level = level;
         is-read = n;
-        too-large = ltb-false (bitmapOf nodes a) (2 ^ (2 ^ s)) b;
+        unsound = unsound-is s nodes a b;
         reads = omega (arith, at);
         number = refl;
       }));
     }
-    turn next goes false small one n b o = record {
+    turn next goes false sound one n b o = record {
       levels-passed = p;
       went-on = on;
       ends = inr (inr (inl (record { level = level; no-node = n; reads = at; number = refl })));
@@ -108,7 +109,7 @@ module _ (w s : ℕ) (nodes ports : List ℕ) (addr : ℕ) where
   abbrev turned : ℕ → ℕ → ℕ → ℕ → Found
   turned k c r t =
       cond (isNode nodes c)
-      (cond (ltb (bitmapOf nodes c) (2 ^ (2 ^ s)))
+      (cond (isSound s nodes c)
       (cond (eqb (slotBit (2 ^ s) (bitmapOf nodes c) t) 1)
       (leafAt ports (leafOf (2 ^ s) nodes c t) (r + 1))
       (walk s nodes ports addr k (childAt (2 ^ s) nodes c t) (r + 1)))
@@ -128,7 +129,7 @@ module _ (w s : ℕ) (nodes ports : List ℕ) (addr : ℕ) where
       subst (λ (i : ℕ). Says (turned k c r (addressSlot s addr i))) left
       (turn p r at (omega arith) on (walk s nodes ports addr k (nodeOn w s nodes addr (suc p)) (r + 1))
       (λ goes. walk-says k (suc p) (r + 1) (omega arith) (omega arith) (went-on-more p on goes))
-      (isNode nodes c) (ltb (bitmapOf nodes c) (2 ^ (2 ^ s))) (eqb (slotBit (2 ^ s) (bitmapOf nodes c) (slotOn w s addr p)) 1)
+      (isNode nodes c) (isSound s nodes c) (eqb (slotBit (2 ^ s) (bitmapOf nodes c) (slotOn w s addr p)) 1)
       refl refl refl)
 
 -- a stride, as a test
@@ -167,7 +168,7 @@ module _ (s : ℕ) (nodes ports : List ℕ) (levels i a j : ℕ) where
   -- where it ends, it does not go on
   ends-here : (k m : ℕ) → EndsAt s nodes ports levels i a j k m → i < levels → GoesOn s nodes a j → ⊥
   ends-here k m (inl e) h on = omega (arith, e .is-leaf, on .non-leaf)
-  ends-here k m (inr (inl e)) h on = omega (arith, e .too-large, on .in-order)
+  ends-here k m (inr (inl e)) h on = sound-or-not s nodes a (on .sound) (e .unsound)
   ends-here k m (inr (inr (inl e))) h on = true≢false (sym (on .is-read) ∙ e .no-node)
   ends-here k m (inr (inr (inr e))) h on = omega (arith, e .no-level)
 
@@ -181,10 +182,10 @@ module _ (s : ℕ) (nodes ports : List ℕ) (levels i a j : ℕ) where
   ends-unique : (k m k′ m′ : ℕ) → EndsAt s nodes ports levels i a j k m → EndsAt s nodes ports levels i a j k′ m′ → (k ≡ k′) × (m ≡ m′)
   ends-unique k m k′ m′ (inl e) (inl f) =
       (e .reads ∙ sym (f .reads), leaf-number-unique ports (leafOf (2 ^ s) nodes a j) m m′ (e .number) (f .number))
-  ends-unique k m k′ m′ (inl e) (inr (inl f)) = absurd (omega (arith, e .in-order, f .too-large))
+  ends-unique k m k′ m′ (inl e) (inr (inl f)) = absurd (sound-or-not s nodes a (e .sound) (f .unsound))
   ends-unique k m k′ m′ (inl e) (inr (inr (inl f))) = absurd (true≢false (sym (e .is-read) ∙ f .no-node))
   ends-unique k m k′ m′ (inl e) (inr (inr (inr f))) = absurd (omega (arith, e .level, f .no-level))
-  ends-unique k m k′ m′ (inr (inl e)) (inl f) = absurd (omega (arith, f .in-order, e .too-large))
+  ends-unique k m k′ m′ (inr (inl e)) (inl f) = absurd (sound-or-not s nodes a (f .sound) (e .unsound))
   ends-unique k m k′ m′ (inr (inl e)) (inr (inl f)) = (e .reads ∙ sym (f .reads), e .number ∙ sym (f .number))
   ends-unique k m k′ m′ (inr (inl e)) (inr (inr (inl f))) = absurd (true≢false (sym (e .is-read) ∙ f .no-node))
   ends-unique k m k′ m′ (inr (inl e)) (inr (inr (inr f))) = absurd (omega (arith, e .level, f .no-level))

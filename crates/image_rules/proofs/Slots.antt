@@ -6,21 +6,22 @@ use Prim.Native.Nat.{ℕ, zero, suc, _+_, _*_, _^_, _≤_, _<_}
 use native.Mathlib.Omega.{arith}
 use native.Mathlib.Nat.{zero-add}
 use lib.ListN.{length, getD, length-append}
+use borrow.Author.Tests.{lt-ltb}
 use Rattle.bits.specs.Bits.{Bits, bits}
 use Rattle.bits.specs.Bitmap.{slotBit}
 use Rattle.bits.proofs.Bits.{length-bits}
 use Rattle.trie.specs.Routes.{Route}
 use Rattle.trie.specs.Scan.{scanList}
 use Rattle.lists.proofs.Numbered.{length-list-of, getD-list-of}
-use Rattle.lists.specs.Flat.{flat, upto}
+use Rattle.lists.specs.Flat.{flat}
 use Rattle.image_rules.specs.Node.{isNode, bitmapOf}
 use Rattle.image_rules.specs.Breadth.{leaf, nonLeaf, leafBit, children}
 use Rattle.image_rules.specs.Image.{someLonger, slotOf, slotBits, slots, imagePaths, imageNodes, imagePorts}
-use Rattle.image_rules.specs.Lookup.{leafOf, childAt}
+use Rattle.image_rules.specs.Lookup.{leafOf, childAt, isSound}
 use Rattle.lists.proofs.Flat.{All, all-list-of}
 use Rattle.image_rules.proofs.Numbering.{Below, levels-is, first-child-lt}
 use Rattle.image_rules.proofs.Longer.{some-longer→}
-use Rattle.image_rules.proofs.Words.{is-node, bitmap-small, slot-bit-is, leaf-lent, port-is, Numbers, child-numbers}
+use Rattle.image_rules.proofs.Words.{Tree, is-node, bitmap-small, is-based, slot-bit-is, leaf-lent, port-is, Numbers, child-numbers}
 
 pub length-slot-bits : (s : ℕ) (q : Bits) (j : ℕ) → length (slotBits s q j) ≡ length q + s
 length-slot-bits s q j = length-append q (bits s j) ∙ ap (λ (n : ℕ). length q + n) (length-bits s j)
@@ -33,6 +34,10 @@ module _ (rs : List Route) (s : ℕ) where
   slot-is q j h =
       getD-list-of (λ i. slotOf rs (slotBits s q i)) (2 ^ s) 0 j (leaf 0) h
       ∙ ap (λ (i : ℕ). slotOf rs (slotBits s q i)) (zero-add j)
+
+  -- an image's nodes, however many levels it has
+  pub image-tree : (k : ℕ) → Tree (slots rs s) (2 ^ s) (imagePaths s k rs)
+  image-tree k = record { whole = length-slots; before = λ i h. first-child-lt (slots rs s) k ([] ∷ []) i h }
 
   -- a node with k levels left, the last of which ends the address
   module _ (w : ℕ) (short : (r : Route) → List·Memᴰ r rs → length (r .prefix) ≤ w) where
@@ -58,12 +63,8 @@ module _ (rs : List Route) (s : ℕ) where
       pub paths-numbered : imagePaths s k rs ≡ [] ∷ flat (children (slots rs s)) (imagePaths s k rs)
       paths-numbered = levels-is (slots rs s) Deep (λ q e. omega (arith, e .1)) below-slots k ([] ∷ []) (d, tt)
 
-      pub first-child-after : (i : ℕ) → i < length (imagePaths s k rs)
-          → i < 1 + upto (children (slots rs s)) (imagePaths s k rs) i
-      first-child-after i h = first-child-lt (slots rs s) k ([] ∷ []) i h
-
--- what slot j of a stored node says in the words lent, by the test of its bits
-module _ (s k : ℕ) (rs : List Route) (more extra : List ℕ) (i : ℕ) (h : i < length (imagePaths s k rs)) (j : ℕ) (l : j < 2 ^ s) where
+-- what a stored node says in the words lent
+module _ (s k : ℕ) (rs : List Route) (more extra : List ℕ) (i : ℕ) (h : i < length (imagePaths s k rs)) where
   abbrev lentNodes : List ℕ
   lentNodes = imageNodes s k rs ++ more
 
@@ -73,44 +74,52 @@ module _ (s k : ℕ) (rs : List Route) (more extra : List ℕ) (i : ℕ) (h : i 
   abbrev path : Bits
   path = getD (imagePaths s k rs) i []
 
-  abbrev below : Bits
-  below = slotBits s path j
-
   pub stored-node : isNode lentNodes (suc i) ≡ true
-  stored-node = is-node (slots rs s) (imagePaths s k rs) [] more extra i h
+  stored-node = is-node (slots rs s) (2 ^ s) (imagePaths s k rs) [] (image-tree rs s k) more extra i h
 
   pub stored-small : bitmapOf lentNodes (suc i) < 2 ^ (2 ^ s)
-  stored-small = bitmap-small (slots rs s) (imagePaths s k rs) [] more extra i h (2 ^ s) j (length-slots rs s path) l
+  stored-small = bitmap-small (slots rs s) (2 ^ s) (imagePaths s k rs) [] (image-tree rs s k) more extra i h
 
-  pub stored-bit : slotBit (2 ^ s) (bitmapOf lentNodes (suc i)) j ≡ leafBit (slotOf rs below)
-  stored-bit =
-      slot-bit-is (slots rs s) (imagePaths s k rs) [] more extra i h (2 ^ s) j (length-slots rs s path) l
-      ∙ ap leafBit (slot-is rs s path j l)
+  pub stored-sound : isSound s lentNodes (suc i) ≡ true
+  stored-sound =
+      rw (
+        lt-ltb (bitmapOf lentNodes (suc i)) (2 ^ (2 ^ s)) stored-small,
+        is-based (slots rs s) (2 ^ s) (imagePaths s k rs) [] (image-tree rs s k) more extra i h,
+      )
 
-  held-slot : (b : Bool) → someLonger rs below ≡ b
-      → getD (slots rs s path) j (leaf 0) ≡ cond b (nonLeaf below) (leaf (scanList rs below))
-  held-slot b t = slot-is rs s path j l ∙ ap (λ (c : Bool). cond c (nonLeaf below) (leaf (scanList rs below))) t
+  -- slot j, by the test of its bits
+  module _ (j : ℕ) (l : j < 2 ^ s) where
+    abbrev below : Bits
+    below = slotBits s path j
 
-  -- a leaf
-  module _ (t : someLonger rs below ≡ false) where
-    pub leaf-bit : slotBit (2 ^ s) (bitmapOf lentNodes (suc i)) j ≡ 1
-    leaf-bit = stored-bit ∙ ap (λ (c : Bool). leafBit (cond c (nonLeaf below) (leaf (scanList rs below)))) t
+    pub stored-bit : slotBit (2 ^ s) (bitmapOf lentNodes (suc i)) j ≡ leafBit (slotOf rs below)
+    stored-bit =
+        slot-bit-is (slots rs s) (2 ^ s) (imagePaths s k rs) [] (image-tree rs s k) more extra i h j l
+        ∙ ap leafBit (slot-is rs s path j l)
 
-    pub leaf-number-lt : leafOf (2 ^ s) lentNodes (suc i) j < length lentPorts
-    leaf-number-lt =
-        leaf-lent (slots rs s) (imagePaths s k rs) [] more extra i h (2 ^ s) j (length-slots rs s path) l (scanList rs below) (held-slot false t)
+    held-slot : (b : Bool) → someLonger rs below ≡ b
+        → getD (slots rs s path) j (leaf 0) ≡ cond b (nonLeaf below) (leaf (scanList rs below))
+    held-slot b t = slot-is rs s path j l ∙ ap (λ (c : Bool). cond c (nonLeaf below) (leaf (scanList rs below))) t
 
-    pub leaf-port : getD lentPorts (leafOf (2 ^ s) lentNodes (suc i) j) 0 ≡ scanList rs below
-    leaf-port =
-        port-is (slots rs s) (imagePaths s k rs) [] more extra i h (2 ^ s) j (length-slots rs s path) l (scanList rs below) (held-slot false t)
+    -- a leaf
+    module _ (t : someLonger rs below ≡ false) where
+      pub leaf-bit : slotBit (2 ^ s) (bitmapOf lentNodes (suc i)) j ≡ 1
+      leaf-bit = stored-bit ∙ ap (λ (c : Bool). leafBit (cond c (nonLeaf below) (leaf (scanList rs below)))) t
 
-  -- a non-leaf
-  module _ (t : someLonger rs below ≡ true) where
-    pub child-bit : slotBit (2 ^ s) (bitmapOf lentNodes (suc i)) j ≡ 0
-    child-bit = stored-bit ∙ ap (λ (c : Bool). leafBit (cond c (nonLeaf below) (leaf (scanList rs below)))) t
+      pub leaf-number-lt : leafOf (2 ^ s) lentNodes (suc i) j < length lentPorts
+      leaf-number-lt =
+          leaf-lent (slots rs s) (2 ^ s) (imagePaths s k rs) [] (image-tree rs s k) more extra i h j l (scanList rs below) (held-slot false t)
 
-    pub child-stored : imagePaths s k rs ≡ [] ∷ flat (children (slots rs s)) (imagePaths s k rs)
-        → i < 1 + upto (children (slots rs s)) (imagePaths s k rs) i
-        → Numbers (imagePaths s k rs) [] (childAt (2 ^ s) lentNodes (suc i) j) below
-    child-stored is before =
-        child-numbers (slots rs s) (imagePaths s k rs) [] more extra i h (2 ^ s) j (length-slots rs s path) l below (held-slot true t) is before
+      pub leaf-port : getD lentPorts (leafOf (2 ^ s) lentNodes (suc i) j) 0 ≡ scanList rs below
+      leaf-port =
+          port-is (slots rs s) (2 ^ s) (imagePaths s k rs) [] (image-tree rs s k) more extra i h j l (scanList rs below) (held-slot false t)
+
+    -- a non-leaf
+    module _ (t : someLonger rs below ≡ true) where
+      pub child-bit : slotBit (2 ^ s) (bitmapOf lentNodes (suc i)) j ≡ 0
+      child-bit = stored-bit ∙ ap (λ (c : Bool). leafBit (cond c (nonLeaf below) (leaf (scanList rs below)))) t
+
+      pub child-stored : imagePaths s k rs ≡ [] ∷ flat (children (slots rs s)) (imagePaths s k rs)
+          → Numbers (imagePaths s k rs) [] (childAt (2 ^ s) lentNodes (suc i) j) below
+      child-stored is =
+          child-numbers (slots rs s) (2 ^ s) (imagePaths s k rs) [] (image-tree rs s k) more extra i h j l below (held-slot true t) is

@@ -11,7 +11,7 @@ use Rattle.bits.specs.Bitmap.{slotBit}
 use Rattle.refusals.specs.Refusals.{notInOrder, wrongStride, found, lost}
 use Rattle.routes.specs.Bounds.{lastPort}
 use Rattle.image_rules.specs.Node.{isNode, bitmapOf}
-use Rattle.image_rules.specs.Lookup.{addressSlot, leafOf, childAt, leafAt, walk, isStride, lookupWords}
+use Rattle.image_rules.specs.Lookup.{addressSlot, leafOf, childAt, leafAt, isSound, walk, isStride, lookupWords}
 use Rattle.refusals.specs.declared.found.Found.{Found}
 use Rattle.image_rules.specs.Theorems.{ReadsLe}
 
@@ -19,18 +19,18 @@ pub leaf-at-is : (ports : List ℕ) (l p reads : ℕ) → l < length ports → g
     → leafAt ports l reads ≡ found p reads
 leaf-at-is ports l p reads h e k = rw (lt-ltb l (length ports) h, e, le-leb p lastPort k)
 
--- a node whose bitmap is in order
+-- a sound node
 module _ (s : ℕ) (nodes ports : List ℕ) (addr k a reads : ℕ)
-    (node : isNode nodes a ≡ true) (small : bitmapOf nodes a < 2 ^ (2 ^ s)) where
+    (node : isNode nodes a ≡ true) (sound : isSound s nodes a ≡ true) where
   pub walk-leaf : slotBit (2 ^ s) (bitmapOf nodes a) (addressSlot s addr k) ≡ 1
       → walk s nodes ports addr (suc k) a reads ≡ leafAt ports (leafOf (2 ^ s) nodes a (addressSlot s addr k)) (reads + 1)
   unfolding walk
-  walk-leaf e = rw (node, lt-ltb (bitmapOf nodes a) (2 ^ (2 ^ s)) small, e)
+  walk-leaf e = rw (node, sound, e)
 
   pub walk-child : slotBit (2 ^ s) (bitmapOf nodes a) (addressSlot s addr k) ≡ 0
       → walk s nodes ports addr (suc k) a reads ≡ walk s nodes ports addr k (childAt (2 ^ s) nodes a (addressSlot s addr k)) (reads + 1)
   unfolding walk
-  walk-child e = rw (node, lt-ltb (bitmapOf nodes a) (2 ^ (2 ^ s)) small, e)
+  walk-child e = rw (node, sound, e)
 
 -- nodes read
 
@@ -43,18 +43,18 @@ reads-leaf ports l reads = by (ltb l (length ports)) (leb (getD ports l 0) lastP
     by true false = refl
     by false c = refl
 
-reads-turn : (node small one : Bool) (end next : Found) (reads k : ℕ) → end .reads ≡ reads + 1 → next .reads ≤ reads + 1 + k
-    → cond node (cond small (cond one end next) (lost notInOrder (reads + 1))) (lost notInOrder reads) .reads ≤ reads + suc k
+reads-turn : (node sound one : Bool) (end next : Found) (reads k : ℕ) → end .reads ≡ reads + 1 → next .reads ≤ reads + 1 + k
+    → cond node (cond sound (cond one end next) (lost notInOrder (reads + 1))) (lost notInOrder reads) .reads ≤ reads + suc k
 reads-turn true true true end next reads k h l = omega arith
 reads-turn true true false end next reads k h l = omega arith
 reads-turn true false one end next reads k h l = omega arith
-reads-turn false small one end next reads k h l = omega arith
+reads-turn false sound one end next reads k h l = omega arith
 
 pub reads-walk : (s : ℕ) (nodes ports : List ℕ) (addr k a reads : ℕ) → walk s nodes ports addr k a reads .reads ≤ reads + k
 unfolding walk
 reads-walk s nodes ports addr zero a reads = omega arith
 reads-walk s nodes ports addr (suc k) a reads =
-    reads-turn (isNode nodes a) (ltb (bitmapOf nodes a) (2 ^ (2 ^ s)))
+    reads-turn (isNode nodes a) (isSound s nodes a)
     (eqb (slotBit (2 ^ s) (bitmapOf nodes a) (addressSlot s addr k)) 1)
     (leafAt ports (leafOf (2 ^ s) nodes a (addressSlot s addr k)) (reads + 1))
     (walk s nodes ports addr k (childAt (2 ^ s) nodes a (addressSlot s addr k)) (reads + 1)) reads k

@@ -1,56 +1,50 @@
 -- Reading back the words and ports of nodes, also where more words are lent after them. Assumes nothing.
-use mathlib.Core.Path.{_≡_, refl, sym, ap, _∙_}
+use mathlib.Core.Path.{_≡_, refl, sym, ap, ap₂, _∙_}
 use mathlib.Core.Bool.{true}
 use mathlib.Core.List.{List, [], _∷_, _++_}
 use Prim.Native.Nat.{ℕ, zero, suc, _+_, _-_, _*_, _^_, _≤_, _<_}
 use native.Mathlib.Omega.{arith}
-use native.Mathlib.Nat.{add-zero, zero-add}
+use native.Mathlib.Nat.{add-zero}
 use lib.ListN.{length, getD, drop, length-append, List·getD-append}
 use lib.Seq.{getD-drop, drop-cons}
-use borrow.Author.Tests.{lt-ltb, le-leb, ne-eqb}
+use borrow.Author.Tests.{lt-ltb, le-leb}
 use Rattle.bits.specs.Bitmap.{slotBit, onesBefore, zerosBefore}
 use Rattle.lists.specs.Flat.{flat, upto}
-use Rattle.image_rules.specs.Node.{nodeSize, offset, nodeCount, isNode, bitmapOf, offsetOf, baseOf}
+use Rattle.image_rules.specs.Node.{nodeSize, nodeCount, isNode, bitmapOf, offsetOf, nextOf, baseOf, isBased}
 use Rattle.image_rules.specs.Breadth.{Slot, leaf, nonLeaf, slotPorts, slotChildren, leafBit, bitmap, children, leafPorts, words, treeWords, treePorts}
 use Rattle.image_rules.specs.Lookup.{leafOf, childAt}
 use Rattle.lists.proofs.Flat.{flat-at, flat-lt}
-use Rattle.image_rules.proofs.Counts.{bitmap-lt, ones-before-bitmap, zeros-before-bitmap, slot-bit-bitmap}
-
-offset-some : (children first own : ℕ) → 0 < children → offset children first own ≡ first - own
-offset-some children first own h = rw (ne-eqb children 0 (λ e. omega arith))
+use Rattle.image_rules.proofs.Counts.{bitmap-lt, ones-before-bitmap, zeros-before-bitmap, slot-bit-bitmap, slots-upto}
 
 module _ {X : Type 0} (slots : X → List (Slot X)) where
-  words-like : {a a′ c c′ l l′ : ℕ} (xs : List X) → a ≡ a′ → c ≡ c′ → l ≡ l′ → words slots a c l xs ≡ words slots a′ c′ l′ xs
-  words-like {a} {a′} {c} {c′} {l} {l′} xs p q r =
-      ap (λ (z : ℕ). words slots z c l xs) p ∙ ap (λ (z : ℕ). words slots a′ z l xs) q ∙ ap (λ (z : ℕ). words slots a′ c′ z xs) r
+  words-like : {a a′ c c′ : ℕ} (xs : List X) → a ≡ a′ → c ≡ c′ → words slots a c xs ≡ words slots a′ c′ xs
+  words-like {a} {a′} {c} {c′} xs p q = ap₂ (λ (y z : ℕ). words slots y z xs) p q
 
-  pub length-words : (a c l : ℕ) (xs : List X) → length (words slots a c l xs) ≡ length xs * nodeSize
-  length-words a c l [] = refl
-  length-words a c l (x ∷ xs) =
-      omega (arith, length-words (a + 1) (c + length (children slots x)) (l + length (leafPorts slots x)) xs)
+  pub length-words : (a c : ℕ) (xs : List X) → length (words slots a c xs) ≡ length xs * nodeSize
+  length-words a c [] = refl
+  length-words a c (x ∷ xs) = omega (arith, length-words (a + 1) (c + length (children slots x)) xs)
 
   -- the words from element i on
-  pub drop-words : (i a c l : ℕ) (xs : List X) → i ≤ length xs
-      → drop (i * nodeSize) (words slots a c l xs)
-      ≡ words slots (a + i) (c + upto (children slots) xs i) (l + upto (leafPorts slots) xs i) (drop i xs)
-  drop-words zero a c l [] h = refl
-  drop-words zero a c l (x ∷ xs) h = words-like (x ∷ xs) (sym (add-zero a)) (sym (add-zero c)) (sym (add-zero l))
-  drop-words (suc i) a c l [] h = absurd (omega arith)
-  drop-words (suc i) a c l (x ∷ xs) h =
-      let e : suc i * nodeSize ≡ suc (suc (suc (i * nodeSize))) = omega arith in
-      ap (λ (k : ℕ). drop k (words slots a c l (x ∷ xs))) e
-      ∙ drop-words i (a + 1) (c + length (children slots x)) (l + length (leafPorts slots x)) xs (omega arith)
-      ∙ words-like (drop i xs) (omega arith) (omega arith) (omega arith)
+  pub drop-words : (i a c : ℕ) (xs : List X) → i ≤ length xs
+      → drop (i * nodeSize) (words slots a c xs) ≡ words slots (a + i) (c + upto (children slots) xs i) (drop i xs)
+  drop-words zero a c [] h = refl
+  drop-words zero a c (x ∷ xs) h = words-like (x ∷ xs) (sym (add-zero a)) (sym (add-zero c))
+  drop-words (suc i) a c [] h = absurd (omega arith)
+  drop-words (suc i) a c (x ∷ xs) h =
+      let e : suc i * nodeSize ≡ suc (suc (i * nodeSize)) = omega arith in
+      ap (λ (k : ℕ). drop k (words slots a c (x ∷ xs))) e
+      ∙ drop-words i (a + 1) (c + length (children slots x)) xs (omega arith)
+      ∙ words-like (drop i xs) (omega arith) (omega arith)
 
   -- word r of element i
-  pub word-at : (i r a c l : ℕ) (xs : List X) (d : X) → i < length xs
-      → getD (words slots a c l xs) (i * nodeSize + r) 0
-      ≡ getD (words slots (a + i) (c + upto (children slots) xs i) (l + upto (leafPorts slots) xs i) (getD xs i d ∷ drop (suc i) xs)) r 0
-  word-at i r a c l xs d h =
-      sym (getD-drop (i * nodeSize) (words slots a c l xs) r 0)
+  pub word-at : (i r a c : ℕ) (xs : List X) (d : X) → i < length xs
+      → getD (words slots a c xs) (i * nodeSize + r) 0
+      ≡ getD (words slots (a + i) (c + upto (children slots) xs i) (getD xs i d ∷ drop (suc i) xs)) r 0
+  word-at i r a c xs d h =
+      sym (getD-drop (i * nodeSize) (words slots a c xs) r 0)
       ∙ ap (λ (ws : List ℕ). getD ws r 0)
-      (drop-words i a c l xs (omega arith)
-      ∙ ap (words slots (a + i) (c + upto (children slots) xs i) (l + upto (leafPorts slots) xs i)) (drop-cons xs i d h))
+      (drop-words i a c xs (omega arith)
+      ∙ ap (words slots (a + i) (c + upto (children slots) xs i)) (drop-cons xs i d h))
 
 -- a is the number of a node of xs, and that node is y
 pub record Numbers {X : Type 0} (xs : List X) (root : X) (a : ℕ) (y : X) : Type 0 where
@@ -59,8 +53,13 @@ pub record Numbers {X : Type 0} (xs : List X) (root : X) (a : ℕ) (y : X) : Typ
   pub stored : at < length xs
   pub is : getD xs at root ≡ y
 
+-- the nodes of a tree: n slots each, and none stands after its first child
+pub record Tree {X : Type 0} (slots : X → List (Slot X)) (n : ℕ) (xs : List X) : Type 0 where
+  pub whole : (x : X) → length (slots x) ≡ n
+  pub before : (i : ℕ) → i < length xs → i < 1 + upto (children slots) xs i
+
 -- the nodes xs stand first in the words lent, and their ports first in the ports lent
-module _ {X : Type 0} (slots : X → List (Slot X)) (xs : List X) (root : X) (more extra : List ℕ) where
+module _ {X : Type 0} (slots : X → List (Slot X)) (n : ℕ) (xs : List X) (root : X) (tree : Tree slots n xs) (more extra : List ℕ) where
   abbrev pub nodesLent : List ℕ
   nodesLent = treeWords slots xs ++ more
 
@@ -72,16 +71,16 @@ module _ {X : Type 0} (slots : X → List (Slot X)) (xs : List X) (root : X) (mo
 
   word-lent : (i r : ℕ) → i < length xs → r < nodeSize
       → getD nodesLent (i * nodeSize + r) 0
-      ≡ getD (words slots (1 + i) (2 + upto (children slots) xs i) (0 + upto (leafPorts slots) xs i) (nodeAt i ∷ drop (suc i) xs)) r 0
+      ≡ getD (words slots (1 + i) (2 + upto (children slots) xs i) (nodeAt i ∷ drop (suc i) xs)) r 0
   word-lent i r h k =
-      List·getD-append (treeWords slots xs) more 0 (i * nodeSize + r) (omega (arith, length-words slots 1 2 0 xs))
-      ∙ word-at slots i r 1 2 0 xs root h
+      List·getD-append (treeWords slots xs) more 0 (i * nodeSize + r) (omega (arith, length-words slots 1 2 xs))
+      ∙ word-at slots i r 1 2 xs root h
 
   module _ (i : ℕ) (h : i < length xs) where
     pub is-node : isNode nodesLent (suc i) ≡ true
     is-node =
         let l : suc i ≤ nodeCount nodesLent =
-        omega (arith, length-append (treeWords slots xs) more, length-words slots 1 2 0 xs) in
+        omega (arith, length-append (treeWords slots xs) more, length-words slots 1 2 xs) in
         rw (lt-ltb 0 (suc i) (omega arith), le-leb (suc i) (nodeCount nodesLent) l)
 
     pub bitmap-is : bitmapOf nodesLent (suc i) ≡ bitmap (slots (nodeAt i))
@@ -89,28 +88,42 @@ module _ {X : Type 0} (slots : X → List (Slot X)) (xs : List X) (root : X) (mo
         let e : (suc i - 1) * nodeSize ≡ i * nodeSize + 0 = omega arith in
         ap (λ (z : ℕ). getD nodesLent z 0) e ∙ word-lent i 0 h (omega arith)
 
-    pub offset-is : offsetOf nodesLent (suc i)
-        ≡ offset (length (children slots (nodeAt i))) (2 + upto (children slots) xs i) (1 + i)
+    offset-is : offsetOf nodesLent (suc i) ≡ 2 + upto (children slots) xs i - (1 + i)
     offset-is =
         let e : suc i - 1 ≡ i = omega arith in
         ap (λ (z : ℕ). getD nodesLent (z * nodeSize + 1) 0) e ∙ word-lent i 1 h (omega arith)
 
-    pub base-is : baseOf nodesLent (suc i) ≡ upto (leafPorts slots) xs i
-    base-is =
+    pub next-is : nextOf nodesLent (suc i) ≡ 2 + upto (children slots) xs i
+    next-is = omega (arith, offset-is, tree .before i h)
+
+    slots-before : n * (suc i - 1) ≡ upto (leafPorts slots) xs i + upto (children slots) xs i
+    slots-before =
         let e : suc i - 1 ≡ i = omega arith in
-        ap (λ (z : ℕ). getD nodesLent (z * nodeSize + 2) 0) e ∙ word-lent i 2 h (omega arith)
-        ∙ zero-add (upto (leafPorts slots) xs i)
+        ap (λ (z : ℕ). n * z) e ∙ sym (slots-upto slots n (tree .whole) xs i (omega arith))
+
+    pub base-is : baseOf n nodesLent (suc i) ≡ upto (leafPorts slots) xs i
+    base-is = omega (arith, slots-before, next-is)
+
+    pub is-based : isBased n nodesLent (suc i) ≡ true
+    is-based =
+        rw (
+          le-leb 2 (nextOf nodesLent (suc i)) (omega (arith, next-is)),
+          le-leb (nextOf nodesLent (suc i) - 2) (n * (suc i - 1)) (omega (arith, slots-before, next-is)),
+        )
+
+    len : length (slots (nodeAt i)) ≡ n
+    len = tree .whole (nodeAt i)
+
+    pub bitmap-small : bitmapOf nodesLent (suc i) < 2 ^ n
+    bitmap-small = rw bitmap-is (rw len at (bitmap-lt (slots (nodeAt i))))
 
     -- slot j of n
-    module _ (n j : ℕ) (len : length (slots (nodeAt i)) ≡ n) (k : j < n) where
+    module _ (j : ℕ) (k : j < n) where
       abbrev pub slotHeld : Slot X
       slotHeld = getD (slots (nodeAt i)) j (leaf 0)
 
       in-slots : j < length (slots (nodeAt i))
-      in-slots = omega arith
-
-      pub bitmap-small : bitmapOf nodesLent (suc i) < 2 ^ n
-      bitmap-small = rw bitmap-is (rw len at (bitmap-lt (slots (nodeAt i))))
+      in-slots = omega (arith, len)
 
       pub slot-bit-is : slotBit n (bitmapOf nodesLent (suc i)) j ≡ leafBit slotHeld
       slot-bit-is = rw bitmap-is (rw len at (slot-bit-bitmap (slots (nodeAt i)) j (leaf 0) in-slots))
@@ -148,8 +161,7 @@ module _ {X : Type 0} (slots : X → List (Slot X)) (xs : List X) (root : X) (mo
             ∙ ap (λ (o : Slot X). getD (slotPorts o) 0 0) e
 
       -- a non-leaf: its number is that of its node, by the numbering law
-      module _ (y : X) (e : slotHeld ≡ nonLeaf y) (is : xs ≡ root ∷ flat (children slots) xs)
-          (before : i < 1 + upto (children slots) xs i) where
+      module _ (y : X) (e : slotHeld ≡ nonLeaf y) (is : xs ≡ root ∷ flat (children slots) xs) where
         one-child : 0 < length (slotChildren slotHeld)
         one-child = rw e (omega arith)
 
@@ -160,10 +172,7 @@ module _ {X : Type 0} (slots : X → List (Slot X)) (xs : List X) (root : X) (mo
         child = suc (upto (children slots) xs i + upto slotChildren (slots (nodeAt i)) j)
 
         child-at-is : childAt n nodesLent (suc i) j ≡ suc child
-        child-at-is =
-            let o : offsetOf nodesLent (suc i) ≡ 2 + upto (children slots) xs i - (1 + i) =
-            offset-is ∙ offset-some (length (children slots (nodeAt i))) (2 + upto (children slots) xs i) (1 + i) (omega (arith, child-lt)) in
-            omega (arith, o, zeros-is, before)
+        child-at-is = omega (arith, next-is, zeros-is)
 
         child-is : nodeAt child ≡ y
         child-is =

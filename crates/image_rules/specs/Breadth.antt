@@ -42,17 +42,15 @@ module _ {X : Type 0} where
   levels slots zero xs = []
   levels slots (suc k) xs = xs ++ levels slots k (flat (children slots) xs)
 
-  -- The words of nodes one after the other. The first has the number own, the next child the number first; base counts "the
-  -- leaves in all earlier nodes".
-  abbrev pub words : (X → List (Slot X)) → ℕ → ℕ → ℕ → List X → List ℕ
-  words slots own first base [] = []
-  words slots own first base (x ∷ xs) =
-      nodeWords (bitmap (slots x)) (offset (length (children slots x)) first own) base
-      ++ words slots (own + 1) (first + length (children slots x)) (base + length (leafPorts slots x)) xs
+  -- the words of nodes one after the other: the first has the number own, and next is the next unused one, which its children take
+  abbrev pub words : (X → List (Slot X)) → ℕ → ℕ → List X → List ℕ
+  words slots own next [] = []
+  words slots own next (x ∷ xs) =
+      nodeWords (bitmap (slots x)) (offset next own) ++ words slots (own + 1) (next + length (children slots x)) xs
 
-  -- nodes are "numbered from 1": the root has the number 1, its first child 2
+  -- nodes are "numbered from 1": the root has the number 1, and 2 is unused
   abbrev pub treeWords : (X → List (Slot X)) → List X → List ℕ
-  treeWords slots xs = words slots 1 2 0 xs
+  treeWords slots xs = words slots 1 2 xs
 
   -- "Ports stand in a lent list of 16-bit numbers, by node, then by slot."
   abbrev pub treePorts : (X → List (Slot X)) → List X → List ℕ

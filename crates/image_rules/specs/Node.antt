@@ -3,20 +3,20 @@
 use mathlib.Core.Bool.{Bool, cond, _&&_}
 use mathlib.Core.List.{List, [], _∷_}
 use Prim.Native.Nat.{ℕ, _+_, _-_, _*_, _/_}
-use lib.Dec.{eqb, ltb, leb}
+use lib.Dec.{ltb, leb}
 use lib.ListN.{length, getD}
 use lib.Seq.{sets}
 
 abbrev pub nodeSize : ℕ
-nodeSize = 3
+nodeSize = 2
 
--- "bitmap, offset, leaf base"
-abbrev pub nodeWords : ℕ → ℕ → ℕ → List ℕ
-nodeWords bitmap offset base = bitmap ∷ offset ∷ base ∷ []
+-- the bitmap, then the offset
+abbrev pub nodeWords : ℕ → ℕ → List ℕ
+nodeWords bitmap offset = bitmap ∷ offset ∷ []
 
--- "The offset is the number of the first non-leaf child minus the node's own, 0 if there is none."
-abbrev pub offset : ℕ → ℕ → ℕ → ℕ
-offset children first own = cond (eqb children 0) 0 (first - own)
+-- "the next unused node number minus its own"; the first non-leaf child has that number, if there is one
+abbrev pub offset : ℕ → ℕ → ℕ
+offset next own = next - own
 
 -- "the whole nodes lent"
 abbrev pub nodeCount : List ℕ → ℕ
@@ -36,8 +36,18 @@ bitmapOf nodes a = getD nodes (nodeStart a) 0
 abbrev pub offsetOf : List ℕ → ℕ → ℕ
 offsetOf nodes a = getD nodes (nodeStart a + 1) 0
 
-abbrev pub baseOf : List ℕ → ℕ → ℕ
-baseOf nodes a = getD nodes (nodeStart a + 2) 0
+-- "a + offset": where a was built, the next unused number
+abbrev pub nextOf : List ℕ → ℕ → ℕ
+nextOf nodes a = a + offsetOf nodes a
+
+-- "The leaf base of node a is then 2^s times (a-1), minus (a + offset - 2)": of the slots of all earlier nodes, n each, those that are
+-- no child's
+abbrev pub baseOf : ℕ → List ℕ → ℕ → ℕ
+baseOf n nodes a = n * (a - 1) - (nextOf nodes a - 2)
+
+-- whether node a has a leaf base: not "where a + offset is below 2 or the leaf base would be negative"
+abbrev pub isBased : ℕ → List ℕ → ℕ → Bool
+isBased n nodes a = leb 2 (nextOf nodes a) && leb (nextOf nodes a - 2) (n * (a - 1))
 
 -- the words of some nodes, stored from node a on
 abbrev pub storeNodes : List ℕ → ℕ → List ℕ → List ℕ

@@ -10,7 +10,7 @@ use Rattle.bits.specs.Bits.{bits}
 use Rattle.bits.specs.Bitmap.{slotBit}
 use Rattle.refusals.specs.Refusals.{notInOrder, wrongStride}
 use Rattle.routes.specs.Bounds.{lastPort}
-use Rattle.image_rules.specs.Node.{isNode, bitmapOf}
+use Rattle.image_rules.specs.Node.{isNode, bitmapOf, offsetOf}
 use Rattle.image_rules.specs.Lookup.{addressSlot, leafOf, childAt, lookupWords, Strided}
 
 -- "Let j be the slot that the address bits d to d+s-1 name": on level i, which is at depth d = s * i
@@ -26,10 +26,21 @@ nodeOn w s nodes addr (suc i) = childAt (2 ^ s) nodes (nodeOn w s nodes addr i) 
 abbrev pub Read : List ℕ → ℕ → Type 0
 Read nodes a = isNode nodes a ≡ true
 
--- a node that is read, with a bitmap in order and a non-leaf in slot j, so that the lookup goes on from it
+-- a bitmap of 2^s bits, a next number of 2 or more, and before the node no fewer slots than children, so that no leaf base is negative
+pub record Sound (s : ℕ) (nodes : List ℕ) (a : ℕ) : Type 0 where
+  pub small : bitmapOf nodes a < 2 ^ (2 ^ s)
+  pub next : 2 ≤ a + offsetOf nodes a
+  pub based : a + offsetOf nodes a ≤ 2 ^ s * (a - 1) + 2
+
+-- "Where its bitmap is 2^(2^s) or more", or "where a + offset is below 2 or the leaf base would be negative"
+abbrev pub Unsound : ℕ → List ℕ → ℕ → Type 0
+Unsound s nodes a =
+    (2 ^ (2 ^ s) ≤ bitmapOf nodes a) ⊎ ((a + offsetOf nodes a < 2) ⊎ (2 ^ s * (a - 1) + 2 < a + offsetOf nodes a))
+
+-- a sound node that is read, with a non-leaf in slot j, so that the lookup goes on from it
 pub record GoesOn (s : ℕ) (nodes : List ℕ) (a j : ℕ) : Type 0 where
   pub is-read : Read nodes a
-  pub in-order : bitmapOf nodes a < 2 ^ (2 ^ s)
+  pub sound : Sound s nodes a
   pub non-leaf : slotBit (2 ^ s) (bitmapOf nodes a) j ≡ 0
 
 -- "Where that is past the ports lent, or the port there is above 4094, the call is refused 11." The number at leaf l
@@ -44,16 +55,16 @@ module _ (s : ℕ) (nodes ports : List ℕ) (levels i a j k m : ℕ) where
   pub record AtLeaf : Type 0 where
     pub level : i < levels
     pub is-read : Read nodes a
-    pub in-order : bitmapOf nodes a < 2 ^ (2 ^ s)
+    pub sound : Sound s nodes a
     pub is-leaf : slotBit (2 ^ s) (bitmapOf nodes a) j ≡ 1
     pub reads : k ≡ i + 1
     pub number : LeafNumber ports (leafOf (2 ^ s) nodes a j) m
 
-  -- "Where its bitmap is 2^(2^s) or more, the call is refused 11"; the node counts
-  pub record AtBitmap : Type 0 where
+  -- a node that is not sound is refused 11, leaf or not, and counts
+  pub record AtUnsound : Type 0 where
     pub level : i < levels
     pub is-read : Read nodes a
-    pub too-large : 2 ^ (2 ^ s) ≤ bitmapOf nodes a
+    pub unsound : Unsound s nodes a
     pub reads : k ≡ i + 1
     pub number : m ≡ notInOrder
 
@@ -71,7 +82,7 @@ module _ (s : ℕ) (nodes ports : List ℕ) (levels i a j k m : ℕ) where
     pub number : m ≡ notInOrder
 
   abbrev pub EndsAt : Type 0
-  EndsAt = AtLeaf ⊎ (AtBitmap ⊎ (AtNoNode ⊎ AtLastDepth))
+  EndsAt = AtLeaf ⊎ (AtUnsound ⊎ (AtNoNode ⊎ AtLastDepth))
 
 -- a lookup that reads k nodes and answers number m: on some levels it goes on, and on the next it ends
 pub record NodesRead (w s : ℕ) (nodes ports : List ℕ) (addr k m : ℕ) : Type 0 where

@@ -10,6 +10,7 @@ pub mod Parting
 pub mod Counting
 pub mod SlotLoop
 pub mod QueueStep
+pub mod Pending
 pub mod QueueLoop
 pub mod Room
 pub mod Unique

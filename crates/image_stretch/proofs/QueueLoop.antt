@@ -1,25 +1,24 @@
 -- The builder's loop: with i nodes done the memory holds their words, and then the nodes still to do. Assumes nothing.
 use mathlib.Core.Path.{_≡_, refl, sym, ap, ap₂, _∙_, subst}
 use mathlib.Core.List.{List, [], _∷_, _++_, append-assoc, append-nil}
-use Prim.Native.Nat.{ℕ, suc, _+_, _-_, _*_, _/_, _%_, _^_, _≤_, _<_}
+use Prim.Native.Nat.{ℕ, suc, _+_, _-_, _*_, _^_, _≤_, _<_}
 use native.Mathlib.Omega.{arith}
 use native.Mathlib.Nat.{add-zero}
-use native.Mathlib.Numerals.{add-one}
-use lib.Arith.{digits-div, digits-mod}
 use lib.ListN.{length, getD, take, drop, length-drop}
 use lib.Seq.{sets, length-sets, getD-append-add, take-suc, take-all, drop-drop}
 use Rattle.promise.specs.Over.{over}
 use Rattle.lists.specs.Flat.{flat, upto}
 use Rattle.routes.specs.declared.Route.{Route}
-use Rattle.image_rules.specs.Node.{nodeSize, nodeWords, offset, nodeStart, storeNodes}
+use Rattle.image_rules.specs.Node.{nodeSize, nodeWords, offset, nodeStart, bitmapOf, offsetOf, storeNodes}
 use Rattle.image_rules.specs.Breadth.{Slot, bitmap, children, leafPorts, treeWords, treePorts}
 use Rattle.lists.proofs.Flat.{flat-append, upto-suc}
 use Rattle.image_rules.proofs.Words.{length-words}
 use Rattle.image_stretch.specs.declared.Stretch.{Stretch}
 use Rattle.image_stretch.specs.declared.Free.{Free}
-use Rattle.image_stretch.specs.Stretches.{halfWord, rootOf}
-use Rattle.image_stretch.specs.Memory.{pending, pendingAt, free, buildNode, usedAfter, memory}
+use Rattle.image_stretch.specs.Stretches.{rootOf}
+use Rattle.image_stretch.specs.Memory.{inHalves, pending, pendingAt, free, buildNode, usedAfter, memory}
 use Rattle.image_stretch.specs.Needs.{Buildable, Queue}
+use Rattle.image_stretch.proofs.Pending.{read-back}
 use Rattle.image_stretch.proofs.QueueStep.{sets-seam, upto-le, flat-take, length-done, rest, memory-is, queue-step}
 
 -- on the way: the nodes before node a are done, and their words and ports stand in the memories lent
@@ -58,12 +57,10 @@ module _ (w : ℕ) (R : ℕ → Route) (s m n : ℕ) (slots : Stretch → List (
       let z : nodeStart (i + 1) ≡ length d = omega (arith, e) in
       let at : (k : ℕ) → getD (memory slots all i nodes₀) (nodeStart (i + 1) + k) 0 ≡ getD (pending y ++ v) k 0
       = (λ k. ap₂ (λ (l : List ℕ) (j : ℕ). getD l (j + k) 0) m z ∙ getD-append-add d (pending y ++ v) k 0) in
-      let b : y .best < halfWord = r .buildable i h .fits .portFits in
-      let p0 : getD (memory slots all i nodes₀) (nodeStart (i + 1)) 0 ≡ y .lo = ap (λ (j : ℕ). getD (memory slots all i nodes₀) j 0) (sym (add-zero (nodeStart (i + 1)))) ∙ at 0 in
-      let p2 : getD (memory slots all i nodes₀) (nodeStart (i + 1) + 2) 0 ≡ y .depth * halfWord + y .best = at 2 in
-      let q2 = ap (λ (c : ℕ). c / halfWord) p2 ∙ digits-div (y .depth) b in
-      let q3 = ap (λ (c : ℕ). c % halfWord) p2 ∙ digits-mod (y .depth) b in
-      λ j. record { lo = p0 j; hi = at 1 j; depth = q2 j; best = q3 j }
+      let p : bitmapOf (memory slots all i nodes₀) (i + 1) ≡ inHalves (y .lo) (y .hi)
+      = ap (λ (j : ℕ). getD (memory slots all i nodes₀) j 0) (sym (add-zero (nodeStart (i + 1)))) ∙ at 0 in
+      let q : offsetOf (memory slots all i nodes₀) (i + 1) ≡ inHalves (y .depth) (y .best) = at 1 in
+      read-back (memory slots all i nodes₀) (i + 1) y (r .buildable i h .fits) p q
 
   ports-next : (i : ℕ) → i < length all → sets (written i) (base i) (leafPorts slots (x i)) ≡ written (suc i)
   ports-next i h =
@@ -123,7 +120,7 @@ module _ (w : ℕ) (R : ℕ → Route) (s m n : ℕ) (slots : Stretch → List (
       is-x = ap₂ (λ (l : List ℕ) (b : ℕ). pendingAt l b) (v .nodesAre) (v .number) ∙ decoded i stored
 
       -- what building the node relies on
-      pub queue-loop-room : (st .node .0 ≤ 2 ^ w) × (st .leaf .0 < 2 ^ w) × Buildable w R s m (pendingAt nodes a)
+      pub queue-loop-room : (st .node .0 ≤ 2 ^ w) × Buildable w R s m (pendingAt nodes a)
           × (nodeStart (st .node .0 + length (children slots (pendingAt nodes a))) ≤ length nodes)
           × (st .leaf .0 + length (leafPorts slots (pendingAt nodes a)) ≤ length ports)
       queue-loop-room =
@@ -131,7 +128,6 @@ module _ (w : ℕ) (R : ℕ → Route) (s m n : ℕ) (slots : Stretch → List (
           let ek : length (children slots (pendingAt nodes a)) ≡ length (children slots (x i)) = ap (λ (y : Stretch). length (children slots y)) is-x in
           let el : length (leafPorts slots (pendingAt nodes a)) ≡ length (leafPorts slots (x i)) = ap (λ (y : Stretch). length (leafPorts slots y)) is-x in (
             omega (arith, in-use, used-le i, r .nodesFit),
-            omega (arith, leaves, upto-le (leafPorts slots) all i, r .portsFit),
             subst (Buildable w R s m) (sym is-x) (r .buildable i b),
             omega (arith, in-use, ek, upto-suc (children slots) all i (rootOf n) b, used-le (suc i), r .nodesRoom, v .nodesLent),
             omega (arith, leaves, el, upto-suc (leafPorts slots) all i (rootOf n) b, upto-le (leafPorts slots) all (suc i), r .portsRoom, v .portsLent),
@@ -139,7 +135,7 @@ module _ (w : ℕ) (R : ℕ → Route) (s m n : ℕ) (slots : Stretch → List (
 
       pub queue-loop-more : {nodes′ ports′ : List ℕ} {st′ : Free} {b : ℕ} → b ≡ a + 1
           → st′ ≡ free (st .node .0 + length (children slots (pendingAt nodes a))) (st .leaf .0 + length (leafPorts slots (pendingAt nodes a)))
-          → nodes′ ≡ buildNode slots nodes a (st .node .0) (st .leaf .0) (pendingAt nodes a)
+          → nodes′ ≡ buildNode slots nodes a (st .node .0) (pendingAt nodes a)
           → ports′ ≡ sets ports (st .leaf .0) (leafPorts slots (pendingAt nodes a))
           → NodesDone slots all nodes₀ ports₀ nodes′ ports′ b st′
       queue-loop-more {nodes′} {ports′} {st′} {b} nb ea eb ec =
@@ -153,16 +149,15 @@ module _ (w : ℕ) (R : ℕ → Route) (s m n : ℕ) (slots : Stretch → List (
           let pl : st .leaf .0 + length (leafPorts slots (pendingAt nodes a)) ≡ base (suc i)
           = ap₂ (λ (p : ℕ) (y : Stretch). p + length (leafPorts slots y)) leaves e ∙ ul in
           let tn : nodes′ ≡ memory slots all (suc i) nodes₀
-          = eb ∙ ap₂ (λ (y : Stretch) (p : ℕ). buildNode slots nodes a p (st .leaf .0) y) e in-use
-          ∙ ap₂ (λ (b p : ℕ). buildNode slots nodes b (usedAfter slots all i + 1) p (x i)) (v .number) leaves
-          ∙ ap (λ (m : List ℕ). buildNode slots m (i + 1) (usedAfter slots all i + 1) (base i) (x i)) (v .nodesAre)
+          = eb ∙ ap₂ (λ (y : Stretch) (p : ℕ). buildNode slots nodes a p y) e in-use
+          ∙ ap₂ (λ (b : ℕ) (m : List ℕ). buildNode slots m b (usedAfter slots all i + 1) (x i)) (v .number) (v .nodesAre)
           ∙ queue-step slots all (rootOf n) (r .numbered) (r .before) i g nodes₀ room in
           let tp : ports′ ≡ written (suc i)
           = ec ∙ ap₂ (λ (y : Stretch) (p : ℕ). sets ports p (leafPorts slots y)) e leaves
           ∙ ap (λ (m : List ℕ). sets m (base i) (leafPorts slots (x i))) (v .portsAre) ∙ ports-next i g in
-          let lt : length (buildNode slots nodes a (st .node .0) (st .leaf .0) (pendingAt nodes a)) ≡ length nodes
+          let lt : length (buildNode slots nodes a (st .node .0) (pendingAt nodes a)) ≡ length nodes
           = length-sets (sets nodes (nodeStart (st .node .0)) (flat pending (children slots (pendingAt nodes a)))) (nodeStart a)
-          (nodeWords (bitmap (slots (pendingAt nodes a))) (offset (length (children slots (pendingAt nodes a))) (st .node .0) a) (st .leaf .0))
+          (nodeWords (bitmap (slots (pendingAt nodes a))) (offset (st .node .0) a))
           ∙ length-sets nodes (nodeStart (st .node .0)) (flat pending (children slots (pendingAt nodes a))) in
           let ln : length nodes′ ≡ length nodes = ap length eb ∙ lt in
           let lp : length ports′ ≡ length ports = ap length ec ∙ length-sets ports (st .leaf .0) (leafPorts slots (pendingAt nodes a)) in
@@ -186,7 +181,7 @@ module _ (w : ℕ) (R : ℕ → Route) (s m n : ℕ) (slots : Stretch → List (
         let u : usedAfter slots all i ≡ length all
         = omega (arith, flat-take (children slots) all i, ap (λ (l : List Stretch). length (flat (children slots) l)) t, ap length (r .numbered)) in
         let z : usedAfter slots all i - i ≡ 0 = omega arith in
-        let lw : usedAfter slots all i * nodeSize ≡ length (treeWords slots all) = ap (λ (k : ℕ). k * nodeSize) u ∙ sym (length-words slots 1 2 0 all) in
+        let lw : usedAfter slots all i * nodeSize ≡ length (treeWords slots all) = ap (λ (k : ℕ). k * nodeSize) u ∙ sym (length-words slots 1 2 all) in
         let lb : base i ≡ length (flat (leafPorts slots) all)
         = sym (flat-take (leafPorts slots) all i) ∙ ap (λ (l : List Stretch). length (flat (leafPorts slots) l)) t in (
           v .nodesAre

@@ -7,8 +7,8 @@ use native.Mathlib.Nat.{add-zero}
 use lib.ListN.{length, getD, take, drop, length-append, length-drop}
 use lib.Seq.{sets, sets-eq, take-append-seam, drop-append-add, take-suc, drop-cons, take-add, drop-drop, length-take-le}
 use Rattle.lists.specs.Flat.{flat, upto}
-use Rattle.image_rules.specs.Node.{nodeSize, nodeWords, offset, nodeStart, storeNodes}
-use Rattle.image_rules.specs.Breadth.{Slot, bitmap, children, leafPorts, words, treeWords}
+use Rattle.image_rules.specs.Node.{nodeSize, nodeWords, offset, nodeStart}
+use Rattle.image_rules.specs.Breadth.{Slot, bitmap, children, words, treeWords}
 use Rattle.lists.proofs.Flat.{flat-append, upto-suc}
 use Rattle.image_rules.proofs.Words.{length-words}
 use Rattle.image_stretch.specs.declared.Stretch.{Stretch}
@@ -42,23 +42,16 @@ module _ {A B : Type 0} (f : A → List B) where
   flat-take (x ∷ xs) (suc i) = length-append (f x) (flat f (take i xs)) ∙ ap (λ (n : ℕ). length (f x) + n) (flat-take xs i)
 
 module _ (slots : Stretch → List (Slot Stretch)) where
-  words-append : (a c l : ℕ) (xs ys : List Stretch)
-      → words slots a c l (xs ++ ys)
-      ≡ words slots a c l xs ++ words slots (a + length xs) (c + length (flat (children slots) xs)) (l + length (flat (leafPorts slots) xs)) ys
-  words-append a c l [] ys =
-      ap (λ (n : ℕ). words slots n c l ys) (sym (add-zero a))
-      ∙ ap₂ (λ (n m : ℕ). words slots (a + 0) n m ys) (sym (add-zero c)) (sym (add-zero l))
-  words-append a c l (x ∷ xs) ys =
+  words-append : (a c : ℕ) (xs ys : List Stretch)
+      → words slots a c (xs ++ ys) ≡ words slots a c xs ++ words slots (a + length xs) (c + length (flat (children slots) xs)) ys
+  words-append a c [] ys = ap₂ (λ (n m : ℕ). words slots n m ys) (sym (add-zero a)) (sym (add-zero c))
+  words-append a c (x ∷ xs) ys =
       let ea : a + 1 + length xs ≡ a + suc (length xs) = omega arith in
       let ec : c + length (children slots x) + length (flat (children slots) xs) ≡ c + length (children slots x ++ flat (children slots) xs)
       = omega (arith, length-append (children slots x) (flat (children slots) xs)) in
-      let el : l + length (leafPorts slots x) + length (flat (leafPorts slots) xs) ≡ l + length (leafPorts slots x ++ flat (leafPorts slots) xs)
-      = omega (arith, length-append (leafPorts slots x) (flat (leafPorts slots) xs)) in
-      let w : List ℕ = words slots (a + 1) (c + length (children slots x)) (l + length (leafPorts slots x)) xs in
-      ap (λ (t : List ℕ). nodeWords (bitmap (slots x)) (offset (length (children slots x)) c a) l ++ t)
-      (words-append (a + 1) (c + length (children slots x)) (l + length (leafPorts slots x)) xs ys
-      ∙ ap (λ (n : ℕ). w ++ words slots n (c + length (children slots x) + length (flat (children slots) xs)) (l + length (leafPorts slots x) + length (flat (leafPorts slots) xs)) ys) ea
-      ∙ ap₂ (λ (n m : ℕ). w ++ words slots (a + suc (length xs)) n m ys) ec el)
+      ap (λ (t : List ℕ). nodeWords (bitmap (slots x)) (offset c a) ++ t)
+      (words-append (a + 1) (c + length (children slots x)) xs ys
+      ∙ ap₂ (λ (n m : ℕ). words slots (a + 1) (c + length (children slots x)) xs ++ words slots n m ys) ea ec)
 
   module _ (all : List Stretch) (root : Stretch) (is : all ≡ root ∷ flat (children slots) all)
       (before : (i : ℕ) → i < length all → i < usedAfter slots all i) (i : ℕ) (h : i < length all) where
@@ -106,23 +99,21 @@ module _ (slots : Stretch → List (Slot Stretch)) where
 
     -- x's own words
     abbrev pub own : List ℕ
-    own = nodeWords (bitmap (slots x)) (offset k (u + 1) (i + 1)) (upto (leafPorts slots) all i)
+    own = nodeWords (bitmap (slots x)) (offset (u + 1) (i + 1))
 
     abbrev pub done : List ℕ
     done = treeWords slots (take i all)
 
     pub length-done : length done ≡ i * nodeSize
-    length-done = length-words slots 1 2 0 (take i all) ∙ ap (λ (n : ℕ). n * nodeSize) (length-take-le i all (omega arith))
+    length-done = length-words slots 1 2 (take i all) ∙ ap (λ (n : ℕ). n * nodeSize) (length-take-le i all (omega arith))
 
     done-next : treeWords slots (take (suc i) all) ≡ done ++ own
     done-next =
         let ea : 1 + length (take i all) ≡ i + 1 = omega (arith, length-take-le i all (omega arith)) in
         let ec : 2 + length (flat (children slots) (take i all)) ≡ u + 1 = omega (arith, flat-take (children slots) all i) in
-        let el : 0 + length (flat (leafPorts slots) (take i all)) ≡ upto (leafPorts slots) all i = omega (arith, flat-take (leafPorts slots) all i) in
-        ap (words slots 1 2 0) (take-suc all i root h)
-        ∙ words-append 1 2 0 (take i all) (x ∷ [])
-        ∙ ap (λ (n : ℕ). done ++ words slots n (2 + length (flat (children slots) (take i all))) (0 + length (flat (leafPorts slots) (take i all))) (x ∷ [])) ea
-        ∙ ap₂ (λ (n m : ℕ). done ++ words slots (i + 1) n m (x ∷ [])) ec el
+        ap (words slots 1 2) (take-suc all i root h)
+        ∙ words-append 1 2 (take i all) (x ∷ [])
+        ∙ ap₂ (λ (n m : ℕ). done ++ words slots n m (x ∷ [])) ea ec
 
     -- the words of node i hold x
     pub memory-is : (lent : List ℕ) → memory slots all i lent ≡ done ++ (pending x ++ (flat pending rest ++ drop (u * nodeSize) lent))
@@ -144,7 +135,7 @@ module _ (slots : Stretch → List (Slot Stretch)) where
 
     -- node i + 1 built, with u + 1 the first that is not in use
     pub queue-step : (lent : List ℕ) → usedAfter slots all (suc i) * nodeSize ≤ length lent
-        → buildNode slots (memory slots all i lent) (i + 1) (u + 1) (upto (leafPorts slots) all i) x ≡ memory slots all (suc i) lent
+        → buildNode slots (memory slots all i lent) (i + 1) (u + 1) x ≡ memory slots all (suc i) lent
     queue-step lent room =
         ap₂ (λ (m k : ℕ). sets (sets (memory slots all i lent) m (flat pending (children slots x))) k own) at-u at-i
         ∙ ap (λ (l : List ℕ). sets l (i * nodeSize) own) first

@@ -65,9 +65,9 @@ module _ (w s : ℕ) (list : List ℕ) (n : ℕ) (st : Strided w s) (ok : ValidL
       )
 
   pub queue-of : (nodes ports : List ℕ) → nodesCount w R n s * nodeSize ≤ length nodes
-      → nodesCount w R n s * (2 ^ s - 1) + 1 ≤ length ports → nodesCount w R n s < 2 ^ w → nodesCount w R n s * (2 ^ s - 1) + 1 < 2 ^ w
+      → nodesCount w R n s * (2 ^ s - 1) + 1 ≤ length ports → nodesCount w R n s < 2 ^ w
       → Queue w R s (2 ^ s) n (stretchSlots w R s (2 ^ s)) (stretches w R s n) nodes ports
-  queue-of nodes ports rn rp few fewer =
+  queue-of nodes ports rn rp few =
       let l : length (stretches w R s n) ≡ nodesCount w R n s = length-stretches w s R n ok st ∙ sizes .0 in
       let m : length (treePorts (stretchSlots w R s (2 ^ s)) (stretches w R s n)) ≡ nodesCount w R n s * (2 ^ s - 1) + 1
       = ap length (stretches-image w s R n ok st .1) ∙ sizes .2 in
@@ -77,7 +77,6 @@ module _ (w s : ℕ) (list : List ℕ) (n : ℕ) (st : Strided w s) (ok : ValidL
         nodesRoom = omega (arith, l);
         portsRoom = omega (arith, m);
         nodesFit = omega (arith, l);
-        portsFit = omega (arith, m);
         buildable = stretches-stand w s R n ok st (Buildable w R s (2 ^ s)) stands-buildable;
       }
 

@@ -202,7 +202,7 @@ module _ (w s : ℕ) (R : ℕ → Route) (n : ℕ) (ok : ValidList w R n) where
         (treeWords (stretchSlots w R s (2 ^ s)) (stretches w R s n) ≡ imageNodes s (w / s) (routesOf w R n))
         × (treePorts (stretchSlots w R s (2 ^ s)) (stretches w R s n) ≡ imagePorts s (w / s) (routesOf w R n))
     stretches-image = (
-      words-alike Like (stretchSlots w R s (2 ^ s)) (slots (routesOf w R n) s) slots-alike 1 2 0 (stretches w R s n) (imagePaths s (w / s) (routesOf w R n)) alike,
+      words-alike Like (stretchSlots w R s (2 ^ s)) (slots (routesOf w R n) s) slots-alike 1 2 (stretches w R s n) (imagePaths s (w / s) (routesOf w R n)) alike,
       tree-ports-alike Like (stretchSlots w R s (2 ^ s)) (slots (routesOf w R n) s) slots-alike (stretches w R s n) (imagePaths s (w / s) (routesOf w R n)) alike,
     )
 

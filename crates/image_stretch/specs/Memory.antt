@@ -7,20 +7,31 @@ use lib.Dec.{eqb}
 use lib.ListN.{length, take, drop, replicate}
 use lib.Seq.{sets}
 use Rattle.lists.specs.Flat.{flat, upto}
-use Rattle.image_rules.specs.Node.{nodeSize, nodeWords, offset, bitmapOf, offsetOf, baseOf, storeNodes}
+use Rattle.image_rules.specs.Node.{nodeSize, nodeWords, offset, bitmapOf, offsetOf, storeNodes}
 use Rattle.image_rules.specs.Breadth.{Slot, slotChildren, slotPorts, leafBit, bitmap, children, treeWords}
 use Rattle.image_stretch.specs.declared.Stretch.{Stretch}
 use Rattle.image_stretch.specs.declared.Filled.{Filled}
 use Rattle.image_stretch.specs.declared.Free.{Free}
 use Rattle.image_stretch.specs.Stretches.{stretch, halfWord}
 
--- a node still to do, in the words of its node
+-- two numbers in one word, and back
+abbrev pub inHalves : ℕ → ℕ → ℕ
+inHalves high low = high * halfWord + low
+
+abbrev pub highHalf : ℕ → ℕ
+highHalf word = word / halfWord
+
+abbrev pub lowHalf : ℕ → ℕ
+lowHalf word = word % halfWord
+
+-- a node still to do, in the two words of its node
 abbrev pub pending : Stretch → List ℕ
-pending x = nodeWords (x .lo) (x .hi) (x .depth * halfWord + x .best)
+pending x = nodeWords (inHalves (x .lo) (x .hi)) (inHalves (x .depth) (x .best))
 
 -- node a, read as one still to do
 abbrev pub pendingAt : List ℕ → ℕ → Stretch
-pendingAt nodes a = stretch (bitmapOf nodes a) (offsetOf nodes a) (baseOf nodes a / halfWord) (baseOf nodes a % halfWord)
+pendingAt nodes a =
+    stretch (highHalf (bitmapOf nodes a)) (lowHalf (bitmapOf nodes a)) (highHalf (offsetOf nodes a)) (lowHalf (offsetOf nodes a))
 
 abbrev pub free : ℕ → ℕ → Free
 free node leaf = record { node = record { 0 = node }; leaf = record { 0 = leaf } }
@@ -45,10 +56,9 @@ abbrev pub keptAfter : ℕ → ℕ → ℕ → ℕ
 keptAfter kept before after = cond (eqb before after) kept after
 
 -- node a built: its children are put from node next on, the first that is not in use, and then its words over its own
-abbrev pub buildNode : (Stretch → List (Slot Stretch)) → List ℕ → ℕ → ℕ → ℕ → Stretch → List ℕ
-buildNode slots nodes a next base x =
-    storeNodes (storeNodes nodes next (flat pending (children slots x))) a
-    (nodeWords (bitmap (slots x)) (offset (length (children slots x)) next a) base)
+abbrev pub buildNode : (Stretch → List (Slot Stretch)) → List ℕ → ℕ → ℕ → Stretch → List ℕ
+buildNode slots nodes a next x =
+    storeNodes (storeNodes nodes next (flat pending (children slots x))) a (nodeWords (bitmap (slots x)) (offset next a))
 
 -- how many nodes are in use when i of `all` are done
 abbrev pub usedAfter : (Stretch → List (Slot Stretch)) → List Stretch → ℕ → ℕ

@@ -46,5 +46,4 @@ pub record Queue (w : ℕ) (R : ℕ → Route) (s m n : ℕ) (slots : Stretch �
   pub nodesRoom : length all * nodeSize ≤ length nodes
   pub portsRoom : length (flat (leafPorts slots) all) ≤ length ports
   pub nodesFit : length all < 2 ^ w
-  pub portsFit : length (flat (leafPorts slots) all) < 2 ^ w
   pub buildable : (i : ℕ) → i < length all → Buildable w R s m (getD all i (rootOf n))

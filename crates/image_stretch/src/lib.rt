@@ -6,7 +6,7 @@ use image_nodes::Node;
 
 pub mod search;
 
-// What half a word holds: the depth of a node still to do, and its port.
+// What half a word holds: of a node still to do, the first and the last of its routes, its depth, and its port.
 pub const HALF_WORD: u32 = 65536;
 
 // A node still to do: the routes lo..hi of the list are those that begin with its bits; best is the port that it inherits.

@@ -203,9 +203,15 @@ impl<'a> Checker<'a> {
     }
 
     /// The general lookup, and at strides 1, 2 and 4 also the one whose stride is a constant.
-    pub fn image_lookup(&mut self, stride: u32, nodes: &[u32], ports: &[u16], addresses: &[u32]) -> Compared<()> {
+    pub fn image_lookup(
+        &mut self,
+        stride: u32,
+        nodes: &[u32],
+        ports: &[u16],
+        addresses: &[u32],
+    ) -> Compared<Vec<Answer<3>>> {
         let lent = (Lent::of(nodes), Lent::of(ports));
-        self.each("image_lookup", lent.clone(), addresses, |library, (nodes, ports), address| {
+        let (answers, _) = self.each("image_lookup", lent.clone(), addresses, |library, (nodes, ports), address| {
             (library.image_lookup)(stride, nodes.all(), ports.all(), *address)
         })?;
         if [1, 2, 4].contains(&stride) {
@@ -213,7 +219,7 @@ impl<'a> Checker<'a> {
                 (library.image_lookup_constant)(stride, nodes.all(), ports.all(), *address)
             })?;
         }
-        Ok(())
+        Ok(answers)
     }
 
     pub fn list_runs(&mut self, list: &[u32], room: usize) -> Compared<(Answer<2>, Vec<u32>)> {

@@ -1,7 +1,10 @@
 //! The comparison itself: libraries that are wrong in one call are told from the reference.
 
+mod walk;
+
 use compare::{scenarios, Checker, Compared, Library, REFERENCE};
 use reference::Answer;
+use walk::{Read, Walk, RIGHT};
 use workload::{clear_spare_bits, Random};
 
 /// The first difference that the scenarios find within a few seeds.
@@ -174,4 +177,148 @@ fn an_announcement_that_is_lost_is_told() {
 fn a_constant_stride_that_walks_another_is_told() {
     let wrong = |_, nodes: &[u32], ports: &[u16], address| reference::image_lookup(4, nodes, ports, address);
     assert_told("image_lookup_S", Library { image_lookup_constant: wrong, ..REFERENCE });
+}
+
+#[test]
+fn an_offset_of_0_where_every_slot_is_a_leaf_is_told() {
+    assert_told(
+        "image_build",
+        Library {
+            image_build: |stride, list, nodes, ports| {
+                let answer = reference::image_build(stride, list, nodes, ports);
+                for node in nodes.chunks_exact_mut(2).take(answer.answer[1] as usize) {
+                    if node[0].count_ones() == 1 << stride {
+                        node[1] = 0;
+                    }
+                }
+                answer
+            },
+            ..REFERENCE
+        },
+    );
+}
+
+#[test]
+fn an_offset_from_the_root_is_told() {
+    assert_told(
+        "image_build",
+        Library {
+            image_build: |stride, list, nodes, ports| {
+                let answer = reference::image_build(stride, list, nodes, ports);
+                for (number, node) in (1..).zip(nodes.chunks_exact_mut(2).take(answer.answer[1] as usize)) {
+                    node[1] = number + node[1] - 1;
+                }
+                answer
+            },
+            ..REFERENCE
+        },
+    );
+}
+
+#[test]
+fn room_asked_for_by_three_words_a_node_is_told() {
+    assert_told(
+        "image_build",
+        Library {
+            image_build: |stride, list, nodes, ports| {
+                let answer = reference::image_build(stride, list, &mut nodes.to_vec(), &mut ports.to_vec());
+                if nodes.len() < 3 * answer.answer[1] as usize {
+                    return Answer { number: 9, answer: [0, 0, 0] };
+                }
+                reference::image_build(stride, list, nodes, ports)
+            },
+            ..REFERENCE
+        },
+    );
+}
+
+#[test]
+fn a_walk_that_is_right_in_every_part_is_not_told() {
+    let right = |stride, nodes: &[u32], ports: &[u16], address| RIGHT.lookup(stride, nodes, ports, address);
+    assert_eq!(difference(&Library { image_lookup: right, ..REFERENCE }), None);
+}
+
+#[test]
+fn a_leaf_base_that_is_one_off_is_told() {
+    assert_told(
+        "image_lookup",
+        Library {
+            image_lookup: |stride, nodes, ports, address| {
+                // The root is taken for a child.
+                let leaf_base = |read: &Read| read.slots_before.saturating_sub(read.next - 1);
+                Walk { leaf_base, ..RIGHT }.lookup(stride, nodes, ports, address)
+            },
+            ..REFERENCE
+        },
+    );
+}
+
+#[test]
+fn a_leaf_base_that_is_asked_for_at_leaves_alone_is_told() {
+    assert_told(
+        "image_lookup",
+        Library {
+            image_lookup: |stride, nodes, ports, address| {
+                let has_leaf_base = |read: &Read| !read.at_leaf || (RIGHT.has_leaf_base)(read);
+                Walk { has_leaf_base, ..RIGHT }.lookup(stride, nodes, ports, address)
+            },
+            ..REFERENCE
+        },
+    );
+}
+
+#[test]
+fn an_offset_of_0_at_node_1_that_is_accepted_is_told() {
+    assert_told(
+        "image_lookup",
+        Library {
+            image_lookup: |stride, nodes, ports, address| {
+                let has_leaf_base = |read: &Read| read.next < 2 || (RIGHT.has_leaf_base)(read);
+                Walk { has_leaf_base, ..RIGHT }.lookup(stride, nodes, ports, address)
+            },
+            ..REFERENCE
+        },
+    );
+}
+
+#[test]
+fn an_offset_of_0_past_node_1_that_is_refused_is_told() {
+    assert_told(
+        "image_lookup",
+        Library {
+            image_lookup: |stride, nodes, ports, address| {
+                let has_leaf_base = |read: &Read| read.next > read.number && (RIGHT.has_leaf_base)(read);
+                Walk { has_leaf_base, ..RIGHT }.lookup(stride, nodes, ports, address)
+            },
+            ..REFERENCE
+        },
+    );
+}
+
+#[test]
+fn a_leaf_base_of_minus_1_that_is_accepted_is_told() {
+    assert_told(
+        "image_lookup",
+        Library {
+            image_lookup: |stride, nodes, ports, address| {
+                let has_leaf_base = |read: &Read| read.next >= 2 && read.next - 2 <= read.slots_before + 1;
+                Walk { has_leaf_base, ..RIGHT }.lookup(stride, nodes, ports, address)
+            },
+            ..REFERENCE
+        },
+    );
+}
+
+#[test]
+fn a_sum_of_a_node_and_its_offset_that_wraps_is_told() {
+    assert_told(
+        "image_lookup",
+        Library {
+            image_lookup: |stride, nodes, ports, address| {
+                let next = |number: u64, offset: u32| u64::from((number as u32).wrapping_add(offset));
+                Walk { next, ..RIGHT }.lookup(stride, nodes, ports, address)
+            },
+            ..REFERENCE
+        },
+    );
 }

@@ -6,8 +6,8 @@ use crate::refusal::Refusal;
 use crate::route::Found;
 use std::net::Ipv4Addr;
 
-/// Words of a node: bitmap, offset, leaf base.
-const NODE_WORDS: usize = 3;
+/// Words of a node: bitmap, offset.
+const NODE_WORDS: usize = 2;
 
 /// Address bits that a lookup takes at each node.
 #[derive(Clone, Copy, PartialEq, Eq, Debug)]

@@ -5,8 +5,8 @@ use crate::prefix::{plain_scan, Prefix, Route, NO_PORT, PORT_LAST, WIDTH};
 use crate::refusal::{check_room, refuse, write_out, Answer, Refusal, NOT_IN_ORDER, WRONG_STRIDE};
 use std::collections::VecDeque;
 
-/// Words of a node: bitmap, offset, leaf base.
-const NODE_WORDS: usize = 3;
+/// Words of a node: bitmap, offset.
+const NODE_WORDS: usize = 2;
 
 /// A node's number, from 1. Sums are exact on 64 bits, so that a damaged offset points past the nodes and never wraps.
 #[derive(Clone, Copy)]
@@ -80,22 +80,20 @@ fn image_of(stride: u32, routes: Vec<Route>) -> Image {
 
 /// Adds the node, the ports of its leaves, and its non-leaf children to those that wait.
 fn add_node(image: &mut Image, waiting: &mut VecDeque<Waiting>, node: Waiting, stride: u32) {
-    let leaf_base = image.ports.len();
-    // The nodes that wait already are numbered between this node and its first child.
-    let first_child_distance = 1 + waiting.len();
+    // The nodes that wait already are numbered between this node and the next unused number, which its first child
+    // takes, if it has one.
+    let offset = 1 + waiting.len();
     let mut bitmap = 0;
-    let mut offset = 0;
     for slot in slots(node.path, stride) {
         let leaf = !node.routes.iter().any(|route| is_below(*route, slot));
         bitmap = bitmap << 1 | u32::from(leaf);
         if leaf {
             image.ports.push(plain_scan(&node.routes, slot.first_address()) as u16);
         } else {
-            offset = first_child_distance;
             waiting.push_back(Waiting { path: slot, routes: routes_that_meet(&node.routes, slot) });
         }
     }
-    image.nodes.extend([bitmap, offset as u32, leaf_base as u32]);
+    image.nodes.extend([bitmap, offset as u32]);
 }
 
 /// The 2^stride slots of a node, left to right: the prefixes that are `stride` bits longer.
@@ -124,19 +122,22 @@ fn search(stride: u32, nodes: &[u32], ports: &[u16], address: u32, nodes_read: &
     let slot_count = 1 << stride;
     let mut number = NodeNumber::ROOT;
     for depth in (0..WIDTH).step_by(stride as usize) {
-        let [bitmap, offset, leaf_base] = node(nodes, number)?;
+        let [bitmap, offset] = node(nodes, number)?;
         // A node that is wrong counts as read.
         *nodes_read += 1;
         if u64::from(bitmap) >= 1 << slot_count {
             return refuse(NOT_IN_ORDER, 0);
         }
+        let next_unused = number.plus(Distance(u64::from(offset)));
+        // A node that can have no leaf base is wrong, also where the address takes a non-leaf.
+        let leaf_base = leaf_base(number, next_unused, slot_count)?;
         let slot = slot_of(address, depth, stride);
         let leaves_before = (0..slot).filter(|before| is_leaf(bitmap, slot_count, *before)).count() as u64;
         if is_leaf(bitmap, slot_count, slot) {
-            return port(ports, LeafNumber(u64::from(leaf_base) + leaves_before));
+            return port(ports, LeafNumber(leaf_base.0 + leaves_before));
         }
         let non_leaves_before = u64::from(slot) - leaves_before;
-        number = number.plus(Distance(u64::from(offset) + non_leaves_before));
+        number = next_unused.plus(Distance(non_leaves_before));
     }
     // A non-leaf at depth 32-s.
     refuse(NOT_IN_ORDER, 0)
@@ -149,7 +150,19 @@ fn node(nodes: &[u32], number: NodeNumber) -> Result<[u32; NODE_WORDS], Refusal>
         return refuse(NOT_IN_ORDER, 0);
     }
     let at = (number.0 - 1) as usize * NODE_WORDS;
-    Ok([nodes[at], nodes[at + 1], nodes[at + 2]])
+    Ok([nodes[at], nodes[at + 1]])
+}
+
+/// How many leaves all nodes before this one have together: as many as they have slots, but for the slots of their
+/// children, which are the nodes from 2 up to the next unused number. 11 where that number is below 2, or where there
+/// would be more children than slots.
+fn leaf_base(number: NodeNumber, next_unused: NodeNumber, slot_count: u32) -> Result<LeafNumber, Refusal> {
+    let slots_before = u64::from(slot_count) * (number.0 - 1);
+    let children_before = next_unused.0.checked_sub(2);
+    match children_before.and_then(|children| slots_before.checked_sub(children)) {
+        Some(leaves) => Ok(LeafNumber(leaves)),
+        None => refuse(NOT_IN_ORDER, 0),
+    }
 }
 
 /// The port of a leaf; 11 for a leaf number past the ports lent, or a port above 4094.

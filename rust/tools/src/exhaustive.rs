@@ -6,6 +6,7 @@ use std::sync::atomic::{AtomicU64, Ordering};
 use workload::list_of;
 
 const RUN_WORDS: usize = 3;
+const NODE_WORDS: usize = 2;
 const SPACE: u64 = 1 << 32;
 /// Addresses that a thread takes at a time.
 const CHUNK: u64 = 1 << 20;
@@ -37,10 +38,10 @@ impl Structure {
 
     fn image(list: &[u32], stride: u32) -> Structure {
         let nodes_most = 1 + list.len() / 3 * (32 / stride as usize - 1);
-        let (mut nodes, mut ports) = (vec![0; 3 * nodes_most], vec![0; nodes_most << stride]);
+        let (mut nodes, mut ports) = (vec![0; NODE_WORDS * nodes_most], vec![0; nodes_most << stride]);
         let built = calls::image_build(stride, list, &mut nodes, &mut ports);
         assert_eq!(built.number, 0, "a valid list is built");
-        nodes.truncate(3 * built.answer[1] as usize);
+        nodes.truncate(NODE_WORDS * built.answer[1] as usize);
         ports.truncate(built.answer[2] as usize);
         Structure::Image { stride, nodes, ports }
     }

@@ -2,7 +2,7 @@
 #include <stddef.h>
 #include <stdint.h>
 
-enum { STRIDE = 4, SLOTS = 1 << STRIDE, NODE_WORDS = 3, PORT_LAST = 4094, NOT_IN_ORDER = 11 };
+enum { STRIDE = 4, SLOTS = 1 << STRIDE, NODE_WORDS = 2, PORT_LAST = 4094, NOT_IN_ORDER = 11 };
 
 static uint32_t replied(uint32_t number, uint32_t port, uint32_t read, uint32_t *answer)
 {
@@ -23,19 +23,22 @@ uint32_t plain_walk_4(const uint32_t *nodes, size_t node_words, const uint16_t *
             return replied(NOT_IN_ORDER, 0, read, answer);
         const uint32_t *node = nodes + (number - 1) * NODE_WORDS;
         uint32_t bitmap = node[0];
+        uint64_t next = number + node[1];
+        /* Of all nodes before this one. Where next is below 2, the children wrap and are more than the slots too. */
+        uint64_t slots_before = (number - 1) * SLOTS, children_before = next - 2;
         read++;
-        if (bitmap >> SLOTS != 0)
+        if (bitmap >> SLOTS != 0 || children_before > slots_before)
             return replied(NOT_IN_ORDER, 0, read, answer);
         shift -= STRIDE;
         uint32_t slot = address >> shift & (SLOTS - 1);
         uint32_t leaves = (uint32_t)__builtin_popcount(bitmap >> (SLOTS - slot));
         if (bitmap >> (SLOTS - 1 - slot) & 1) {
-            uint64_t leaf = (uint64_t)node[2] + leaves;
+            uint64_t leaf = slots_before - children_before + leaves;
             if (leaf >= port_count || ports[leaf] > PORT_LAST)
                 return replied(NOT_IN_ORDER, 0, read, answer);
             return replied(0, ports[leaf], read, answer);
         }
-        number += (uint64_t)node[1] + (slot - leaves);
+        number = next + (slot - leaves);
     }
     return replied(NOT_IN_ORDER, 0, read, answer);
 }

@@ -30,11 +30,11 @@ fn the_plain_walk_answers_as_the_reference_on_damaged_images() {
     for seed in 0..2000 {
         let mut random = Random::new(seed);
         let held = random.held(10);
-        let (mut nodes, mut ports) = (vec![0; 3 * 100], vec![0; 16 * 100]);
+        let (mut nodes, mut ports) = (vec![0; 2 * 100], vec![0; 16 * 100]);
         let built = reference::image_build(4, &list_of(&held), &mut nodes, &mut ports).answer;
-        nodes.truncate(3 * built[1] as usize);
+        nodes.truncate(2 * built[1] as usize);
         ports.truncate(built[2] as usize);
-        (0..random.below(3)).for_each(|_| damage_image(&mut nodes, &mut ports, &mut random));
+        (0..random.below(3)).for_each(|_| damage_image(4, &mut nodes, &mut ports, &mut random));
         for _ in 0..20 {
             let address = random.address(&held);
             let right = reference::image_lookup(4, &nodes, &ports, address);

@@ -6,7 +6,7 @@ use crate::spare::{set_spare_bits, shorten_prefix};
 
 const ROUTE_WORDS: usize = 3;
 const ROW_WORDS: usize = 5;
-const NODE_WORDS: usize = 3;
+const NODE_WORDS: usize = 2;
 const FILE_HEAD_BYTES: usize = 5;
 
 /// Damages a list in one place, or cuts it, or makes it longer.
@@ -79,23 +79,63 @@ pub fn damage_rows(rows: &mut [u32], random: &mut Random) {
     }
 }
 
-/// Damages a node's bitmap, offset or leaf base, exchanges two nodes, or damages a port. An offset of 0 on a non-leaf
-/// leads back to its own node.
-pub fn damage_image(nodes: &mut [u32], ports: &mut [u16], random: &mut Random) {
+/// Damages a bitmap, an offset or a port of an image at this stride, exchanges two nodes, cuts nodes or ports short or
+/// makes them longer, or lays the nodes out in three words. The root stays whole.
+pub fn damage_image(stride: u32, nodes: &mut Vec<u32>, ports: &mut Vec<u16>, random: &mut Random) {
     let count = nodes.len() / NODE_WORDS;
     if count == 0 || ports.is_empty() {
         return;
     }
     let [node, other] = [NODE_WORDS * random.index(count), NODE_WORDS * random.index(count)];
     let port = random.index(ports.len());
-    match random.below(7) {
+    match random.below(12) {
         0 => flip_bit(nodes, random),
         1 => nodes[node] = random.pick(&[0, 1, 3, 4, 15, 16, 0xFFFF, 0x1_0000, u32::MAX]),
         2 => nodes[node + 1] = random.pick(&[0, 1, count as u32, u32::MAX - 1, u32::MAX]),
-        3 => nodes[node + 2] = random.pick(&[0, ports.len() as u32 - 1, ports.len() as u32, u32::MAX]),
-        4 => exchange(nodes, node, other, NODE_WORDS),
-        5 => ports[port] = random.pick(&[0, 4094, 4095, u16::MAX]),
-        _ => nodes[node + random.index(NODE_WORDS)] = random.any_size(),
+        3..=5 => damage_offset(stride, nodes, random),
+        6 => exchange(nodes, node, other, NODE_WORDS),
+        7 => ports[port] = random.pick(&[0, 4094, 4095, u16::MAX]),
+        8 => nodes[node + random.index(NODE_WORDS)] = random.any_size(),
+        9 => *nodes = with_leaf_bases(stride, nodes),
+        10 => cut_or_extend(nodes, NODE_WORDS, random),
+        _ => cut_or_extend(ports, 0, random),
+    }
+}
+
+/// Makes an offset one at an edge of what a lookup allows, or one that could pass for it. Node a and its offset make 2
+/// at least, so that 0 is wrong at node 1 alone, and 2^s (a-1) + 2 at most, where the leaf base is 0. From a non-leaf
+/// an offset of 0 leads back to its own node.
+fn damage_offset(stride: u32, nodes: &mut [u32], random: &mut Random) {
+    let count = nodes.len() / NODE_WORDS;
+    // Most lookups read the first nodes, so these are damaged more often.
+    let among = random.pick(&[1, 2, count]).min(count);
+    let node = random.index(among);
+    let (number, other) = (node as u32 + 1, random.index(count) as u32 + 1);
+    let offset = nodes[NODE_WORDS * node + 1];
+    let last = ((number - 1) << stride) + 2 - number;
+    // To a node before its own an offset leads only where a sum wraps.
+    let to_other = other.wrapping_sub(number);
+    let choices = [0, last, last + 1, u32::MAX, offset.wrapping_sub(1), offset.wrapping_add(1), to_other];
+    nodes[NODE_WORDS * node + 1] = random.pick(&choices);
+}
+
+/// The nodes as they were laid out in three words: with the leaf base, and with offset 0 where every slot is a leaf.
+fn with_leaf_bases(stride: u32, nodes: &[u32]) -> Vec<u32> {
+    let mut leaf_base = 0;
+    let three_words = |node: &[u32]| {
+        let (leaves, base) = (node[0].count_ones(), leaf_base);
+        leaf_base += leaves;
+        [node[0], if leaves == 1 << stride { 0 } else { node[1] }, base]
+    };
+    nodes.chunks_exact(NODE_WORDS).flat_map(three_words).collect()
+}
+
+/// Leaves that many elements at least.
+fn cut_or_extend<T: Copy>(elements: &mut Vec<T>, least: usize, random: &mut Random) {
+    if random.below(2) == 0 {
+        elements.truncate(least + random.index(elements.len() - least + 1));
+    } else {
+        elements.extend_from_within(..random.index(elements.len() + 1));
     }
 }
 

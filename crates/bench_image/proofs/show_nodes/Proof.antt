@@ -6,7 +6,7 @@ use Rattle.bench_image.proofs.show_nodes.Statement.{statement}
 use Rattle.bench_image.proofs.show_nodes.Tie as tie
 
 abbrev Inv-loop : tie.InvT-loop
-Inv-loop claim nodes part count i₀ t6 i = (i ≤ count) × (count * 3 ≤ length nodes) × (part < 3)
+Inv-loop claim nodes part count i₀ t6 i = (i ≤ count) × (count * 2 ≤ length nodes) × (part < 2)
 
 abbrev μ-loop : tie.MeasureT-loop
 μ-loop claim nodes part count i₀ t6 i = count - i

@@ -35,20 +35,11 @@ mul-t10 c = search needs
 shared-slice-read-t12 : tie.Need-shared-slice-read-t12
 shared-slice-read-t12 c = search needs
 
-add-t13 : tie.Need-add-t13
-add-t13 c = search needs
-
-mul-t14 : tie.Need-mul-t14
-mul-t14 c = search needs
-
-shared-slice-read-t16 : tie.Need-shared-slice-read-t16
-shared-slice-read-t16 c = search needs
-
 returns-3 : tie.Need-returns-3
 unfolding nodeAt
 returns-3 c =
-    let a = c .before .before .before .before .before .before .before .before .args in
-    rw (lent-node (a .nodes .now) (a .at .0) (omega arith) (omega (arith, c .before .before .before .before .before .node-count .ensures)), c .before .before .before .start-of .ensures)
+    let a = c .before .before .before .before .before .before .before .args in
+    rw (lent-node (a .nodes .now) (a .at .0) (omega arith) (omega (arith, c .before .before .before .before .node-count .ensures)), c .before .before .start-of .ensures)
 
 pub node-at-spec : {M : Type 1} → statement M
 node-at-spec =
@@ -63,7 +54,4 @@ node-at-spec =
     add-t9
     mul-t10
     shared-slice-read-t12
-    add-t13
-    mul-t14
-    shared-slice-read-t16
     returns-3)

@@ -1,7 +1,7 @@
 use native.Mathlib.Omega.{arith}
 use lib.ListN.{length-set}
 use Rattle.image_rules.specs.Node.{storeNode}
-use Rattle.image_nodes.proofs.Nodes.{no-node-0, no-node-past, stored-three}
+use Rattle.image_nodes.proofs.Nodes.{no-node-0, no-node-past, stored-two}
 use borrow.Author.Needs.{needs}
 use Rattle.image_nodes.proofs.store_node.Statement.{statement}
 use Rattle.image_nodes.proofs.store_node.Tie as tie
@@ -40,22 +40,13 @@ mul-nodes-2 c = search needs
 slice-write-nodes-2 : tie.Need-slice-write-nodes-2
 slice-write-nodes-2 c = simp length-set (omega arith)
 
-add-nodes-2 : tie.Need-add-nodes-2
-add-nodes-2 c = search needs
-
-mul-nodes-3 : tie.Need-mul-nodes-3
-mul-nodes-3 c = search needs
-
-slice-write-nodes-3 : tie.Need-slice-write-nodes-3
-slice-write-nodes-3 c = simp length-set (omega arith)
-
 same-length-2 : tie.Need-same-length-2
 same-length-2 c = search needs
 
 returns-3 : tie.Need-returns-3
 returns-3 c =
     let a = c .before .before .before .before .before .before .args in
-    stored-three (a .nodes .now) (a .at .0) (omega arith) (omega (arith, c .before .before .node-count .ensures)) (c .start-of .result) (a .x .bitmap) (a .x .offset) (a .x .base) (c .start-of .ensures)
+    stored-two (a .nodes .now) (a .at .0) (omega arith) (omega (arith, c .before .before .node-count .ensures)) (c .start-of .result) (a .x .bitmap) (a .x .offset) (c .start-of .ensures)
 
 pub store-node-spec : {M : Type 1} → statement M
 store-node-spec =
@@ -71,8 +62,5 @@ store-node-spec =
     add-nodes
     mul-nodes-2
     slice-write-nodes-2
-    add-nodes-2
-    mul-nodes-3
-    slice-write-nodes-3
     same-length-2
     returns-3)

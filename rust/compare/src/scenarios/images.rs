@@ -5,6 +5,7 @@ use crate::checker::{Checker, Compared};
 use workload::{damage_image, list_of, Held, Random};
 
 const STRIDES: [u32; 3] = [1, 2, 4];
+const NODE_WORDS: usize = 2;
 
 struct Image {
     stride: u32,
@@ -15,9 +16,9 @@ struct Image {
 /// The image of a set, cut to what was written.
 fn image_of(checker: &mut Checker, stride: u32, held: &Held) -> Compared<Image> {
     let nodes_most = 1 + held.len() * (32 / stride as usize - 1);
-    let room = (3 * nodes_most, nodes_most << stride);
+    let room = (NODE_WORDS * nodes_most, nodes_most << stride);
     let (built, mut nodes, mut ports) = checker.image_build(stride, &list_of(held), room)?;
-    nodes.truncate(3 * built.answer[1] as usize);
+    nodes.truncate(NODE_WORDS * built.answer[1] as usize);
     ports.truncate(built.answer[2] as usize);
     Ok(Image { stride, nodes, ports })
 }
@@ -59,7 +60,7 @@ pub fn damaged_images(checker: &mut Checker, random: &mut Random, most: usize) -
     let image = image_of(checker, stride, &held)?;
     for _ in 0..8 {
         let (mut nodes, mut ports) = (image.nodes.clone(), image.ports.clone());
-        some_damage(random, |random| damage_image(&mut nodes, &mut ports, random));
+        some_damage(random, |random| damage_image(stride, &mut nodes, &mut ports, random));
         checker.image_lookup(image.stride, &nodes, &ports, &addresses(random, &held, 40))?;
     }
     Ok(())

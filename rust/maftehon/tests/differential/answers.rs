@@ -75,12 +75,12 @@ fn calls_on_images_write_their_answer_alone() {
     let (nodes, ports) = (nodes.as_mut_ptr(), ports.as_mut_ptr());
     // SAFETY: every pointer is valid for the size that goes with it, and `answer` overlaps none of them.
     unsafe {
-        assert_answers(9, [0, 0, 0], |answer| mft_image_build(4, list, 3, nodes, 5, ports, 60, answer));
-        assert_answers(0, [0, 2, 31], |answer| mft_image_build(4, list, 3, nodes, 6, ports, 31, answer));
-        assert_answers(0, [0, 7, 2], |answer| mft_image_lookup(4, nodes, 6, ports, 31, 10 << 24, answer));
-        assert_answers(12, [0, 0, 0], |answer| mft_image_lookup(3, nodes, 6, ports, 31, 10 << 24, answer));
-        assert_answers(0, [0, 7, 2], |answer| mft_image_lookup_4(nodes, 6, ports, 31, 10 << 24, answer));
-        assert_answers(11, [0, 0, 1], |answer| mft_image_lookup_4(nodes, 5, ports, 31, 10 << 24, answer));
+        assert_answers(9, [0, 0, 0], |answer| mft_image_build(4, list, 3, nodes, 3, ports, 60, answer));
+        assert_answers(0, [0, 2, 31], |answer| mft_image_build(4, list, 3, nodes, 4, ports, 31, answer));
+        assert_answers(0, [0, 7, 2], |answer| mft_image_lookup(4, nodes, 4, ports, 31, 10 << 24, answer));
+        assert_answers(12, [0, 0, 0], |answer| mft_image_lookup(3, nodes, 4, ports, 31, 10 << 24, answer));
+        assert_answers(0, [0, 7, 2], |answer| mft_image_lookup_4(nodes, 4, ports, 31, 10 << 24, answer));
+        assert_answers(11, [0, 0, 1], |answer| mft_image_lookup_4(nodes, 3, ports, 31, 10 << 24, answer));
         assert_answers(11, [0, 0, 0], |answer| mft_image_lookup_1(nodes, 0, ports, 31, 10 << 24, answer));
         assert_answers(11, [0, 0, 0], |answer| mft_image_lookup_2(nodes, 0, ports, 31, 10 << 24, answer));
     }

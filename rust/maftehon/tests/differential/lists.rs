@@ -29,7 +29,7 @@ fn lists_about_the_most_routes_are_accepted_and_refused_alike() {
             checker.file_write(&list, 40_000)?;
             checker.table_build(&list, 5 * 5000)?;
             checker.list_runs(&list, 30_000)?;
-            checker.image_build(4, &list, (3 * 5000, 16 * 5000))?;
+            checker.image_build(4, &list, (2 * 5000, 16 * 5000))?;
         }
         Ok(())
     });

@@ -1,7 +1,7 @@
 //! Rules, "Bench examples": examples 1 to 12, typed from the rules.
 
-use crate::support::{address, done, list_of_bits, prefix, UNTOUCHED, UNTOUCHED_PORT};
-use reference::{image_build, image_lookup, list_runs, table_check, table_lookup, table_withdraw};
+use crate::support::{address, done, image_of, list_of_bits, prefix, UNTOUCHED};
+use reference::{image_lookup, list_runs, table_check, table_lookup, table_withdraw};
 
 /// Source document 004, Table I. Row r has port r+1.
 fn table_1() -> Vec<u32> {
@@ -82,26 +82,14 @@ fn figure_4() -> Vec<u32> {
     list_of_bits(&["01", "10", "000", "001", "111", "1100", "1101"])
 }
 
-/// The nodes and ports of a built image.
-fn built(stride: u32, list: &[u32]) -> (Vec<u32>, Vec<u16>) {
-    let mut nodes = [UNTOUCHED; 30];
-    let mut ports = [UNTOUCHED_PORT; 30];
-    let answer = image_build(stride, list, &mut nodes, &mut ports);
-    assert_eq!((answer.number, answer.answer[0]), (0, 0));
-    let [_, node_count, port_count] = answer.answer.map(|count| count as usize);
-    assert!(nodes[3 * node_count..].iter().all(|word| *word == UNTOUCHED));
-    assert!(ports[port_count..].iter().all(|port| *port == UNTOUCHED_PORT));
-    (nodes[..3 * node_count].to_vec(), ports[..port_count].to_vec())
-}
-
-fn nodes_of(bitmaps: &[u32], offsets: &[u32], leaf_bases: &[u32]) -> Vec<u32> {
-    (0..bitmaps.len()).flat_map(|node| [bitmaps[node], offsets[node], leaf_bases[node]]).collect()
+fn nodes_of(bitmaps: &[u32], offsets: &[u32]) -> Vec<u32> {
+    (0..bitmaps.len()).flat_map(|node| [bitmaps[node], offsets[node]]).collect()
 }
 
 #[test]
 fn example_9_figure_4_at_stride_1() {
-    let (nodes, ports) = built(1, &figure_4());
-    assert_eq!(nodes, nodes_of(&[0, 1, 2, 3, 1, 3], &[1, 2, 2, 0, 1, 0], &[0, 0, 1, 2, 4, 5]));
+    let (nodes, ports) = image_of(1, &figure_4());
+    assert_eq!(nodes, nodes_of(&[0, 1, 2, 3, 1, 3], &[1, 2, 2, 2, 1, 1]));
     // By node and slot: 01, 10, 000, 001, 111, 1100, 1101, whose ports are 1..7.
     assert_eq!(ports, [1, 2, 3, 4, 5, 6, 7]);
     assert_eq!(image_lookup(1, &nodes, &ports, address("0101")), done([0, 1, 2]));
@@ -109,15 +97,15 @@ fn example_9_figure_4_at_stride_1() {
 
 #[test]
 fn example_10_figure_4_at_stride_2() {
-    let (nodes, ports) = built(2, &figure_4());
-    assert_eq!(nodes, nodes_of(&[6, 15, 15], &[1, 0, 0], &[0, 2, 6]));
+    let (nodes, ports) = image_of(2, &figure_4());
+    assert_eq!(nodes, nodes_of(&[6, 15, 15], &[1, 2, 1]));
     assert_eq!(ports, [1, 2, 3, 3, 4, 4, 6, 7, 5, 5]);
 }
 
 #[test]
 fn example_11_the_empty_list_at_stride_4() {
-    let (nodes, ports) = built(4, &[]);
-    assert_eq!(nodes, [65535, 0, 0]);
+    let (nodes, ports) = image_of(4, &[]);
+    assert_eq!(nodes, [65535, 1]);
     assert_eq!(ports, [0; 16]);
 }
 

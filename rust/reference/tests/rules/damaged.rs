@@ -1,7 +1,7 @@
 //! Damaged rows and images: good order against a second check, and lookups that end in their bounds.
 
-use crate::support::{agree, first_bits_of, list_of, table_of, Random, UNTOUCHED, UNTOUCHED_PORT};
-use reference::{image_build, image_lookup, table_announce, table_check, table_lookup, table_withdraw};
+use crate::support::{agree, first_bits_of, image_of, list_of, table_of, Random, STRIDES};
+use reference::{image_lookup, table_announce, table_check, table_lookup, table_withdraw};
 use std::cmp::Reverse;
 use workload::{damage_image, damage_rows};
 
@@ -115,15 +115,11 @@ fn a_lookup_in_a_damaged_image_ends_with_at_most_32_over_stride_read() {
     for seed in 0..1000 {
         let mut random = Random::new(seed);
         let held = random.held(8);
-        let stride = [1, 2, 4][random.below(3) as usize];
-        let (mut nodes, mut ports) = ([UNTOUCHED; 3 * 260], [UNTOUCHED_PORT; 4000]);
-        let answer = image_build(stride, &list_of(&held), &mut nodes, &mut ports);
-        let [_, node_count, port_count] = answer.answer;
-        let nodes = &mut nodes[..3 * node_count as usize];
-        let ports = &mut ports[..port_count as usize];
-        (0..=random.below(2)).for_each(|_| damage_image(nodes, ports, &mut random));
+        let stride = random.pick(&STRIDES);
+        let (mut nodes, mut ports) = image_of(stride, &list_of(&held));
+        (0..=random.below(2)).for_each(|_| damage_image(stride, &mut nodes, &mut ports, &mut random));
         for _ in 0..10 {
-            let found = image_lookup(stride, nodes, ports, random.address(&held));
+            let found = image_lookup(stride, &nodes, &ports, random.address(&held));
             let [place, port, nodes_read] = found.answer;
             assert!([0, 11].contains(&found.number) && place == 0, "seed {seed}");
             assert!((1..=32 / stride).contains(&nodes_read), "seed {seed}");

@@ -46,7 +46,7 @@ fn a_route_hidden_by_longer_ones_of_its_own_port_adds_no_run() {
 #[test]
 fn a_child_is_found_by_zeros_and_a_leaf_by_ones_before_the_slot() {
     let list = list_of_bits(&["01", "10", "000", "001", "111", "1100", "1101"]);
-    let (mut nodes, mut ports) = ([UNTOUCHED; 9], [UNTOUCHED_PORT; 10]);
+    let (mut nodes, mut ports) = ([UNTOUCHED; 6], [UNTOUCHED_PORT; 10]);
     assert_eq!(image_build(2, &list, &mut nodes, &mut ports), done([0, 3, 10]));
     assert_eq!(image_lookup(2, &nodes, &ports, address("01")), done([0, 1, 1]));
     assert_eq!(image_lookup(2, &nodes, &ports, address("10")), done([0, 2, 1]));

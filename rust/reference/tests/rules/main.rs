@@ -3,6 +3,7 @@
 mod bench_examples;
 mod damaged;
 mod faults;
+mod leaf_bases;
 mod list_and_file;
 mod prefixes;
 mod random_lists;

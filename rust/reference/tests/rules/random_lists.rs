@@ -1,13 +1,12 @@
 //! Random lists: every lookup equals the plain scan, reads what the rules say, and the runs cover the space.
 
 use crate::support::{
-    agree, done, first_bits_of, list_of, refused, scan, table_of, Held, Prefix, Random, UNTOUCHED, UNTOUCHED_PORT,
+    agree, done, first_bits_of, image_of, list_of, refused, scan, table_of, Held, Prefix, Random, NODE_WORDS, STRIDES,
+    UNTOUCHED,
 };
-use reference::{image_build, image_lookup, list_runs, list_scan, table_build, table_check, table_lookup};
+use reference::{image_lookup, list_runs, list_scan, table_build, table_check, table_lookup};
 use reference::{table_runs, table_save};
 use std::cmp::Reverse;
-
-const STRIDES: [u32; 3] = [1, 2, 4];
 
 /// The nodes that the search passes in the trie of the rule, following only the sets on the address's way.
 fn rows_on_the_way(held: &Held, address: u32) -> u32 {
@@ -28,21 +27,6 @@ fn rows_on_the_way(held: &Held, address: u32) -> u32 {
 fn nodes_on_the_way(held: &Held, stride: u32, address: u32) -> u32 {
     let non_leaf = |bits: u32| held.keys().any(|(value, length)| *length > bits && agree(*value, address, bits));
     1 + (1..32 / stride).take_while(|slots| non_leaf(slots * stride)).count() as u32
-}
-
-/// An image with room to spare, cut to what was written.
-fn image_of(stride: u32, list: &[u32]) -> (Vec<u32>, Vec<u16>) {
-    let nodes_most = 1 + list.len() / 3 * 32;
-    let mut nodes = vec![UNTOUCHED; 3 * nodes_most];
-    let mut ports = vec![UNTOUCHED_PORT; 16 * nodes_most];
-    let answer = image_build(stride, list, &mut nodes, &mut ports);
-    assert_eq!((answer.number, answer.answer[0]), (0, 0));
-    let [_, node_count, port_count] = answer.answer.map(|count| count as usize);
-    assert!(nodes[3 * node_count..].iter().all(|word| *word == UNTOUCHED));
-    assert!(ports[port_count..].iter().all(|port| *port == UNTOUCHED_PORT));
-    nodes.truncate(3 * node_count);
-    ports.truncate(port_count);
-    (nodes, ports)
 }
 
 #[test]
@@ -96,8 +80,8 @@ fn an_image_has_one_leaf_more_than_its_nodes_take() {
         let list = list_of(&Random::new(seed).held(40));
         for stride in STRIDES {
             let (nodes, ports) = image_of(stride, &list);
-            let slots = nodes.len() / 3 * (1 << stride);
-            assert_eq!(ports.len(), slots - (nodes.len() / 3 - 1), "seed {seed} stride {stride}");
+            let count = nodes.len() / NODE_WORDS;
+            assert_eq!(ports.len(), (count << stride) - (count - 1), "seed {seed} stride {stride}");
         }
     }
 }

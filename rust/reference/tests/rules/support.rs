@@ -1,12 +1,15 @@
-//! What the tests share: prefixes written as bits, and a plain scan of the tests' own.
+//! What the tests share: prefixes written as bits, tables and images of lists, and a plain scan of the tests' own.
 
-use reference::{table_build, Answer};
+use reference::{image_build, table_build, Answer};
 pub use workload::{first_bits_of, full_length_list, list_of, Held, Prefix, Random};
 
 /// What a lent word, byte or port holds before a call, to see what is written.
 pub const UNTOUCHED: u32 = 0xDEAD_BEEF;
 pub const UNTOUCHED_BYTE: u8 = 0xA5;
 pub const UNTOUCHED_PORT: u16 = 0xA5A5;
+
+pub const STRIDES: [u32; 3] = [1, 2, 4];
+pub const NODE_WORDS: usize = 2;
 
 pub fn done<const N: usize>(answer: [u32; N]) -> Answer<N> {
     Answer { number: 0, answer }
@@ -37,6 +40,21 @@ pub fn table_of(list: &[u32]) -> (Vec<u32>, u32) {
     let mut rows = vec![UNTOUCHED; 5 * n];
     assert_eq!(table_build(list, &mut rows), done([0, n as u32]));
     (rows, n as u32)
+}
+
+/// The nodes and ports of an image built with room to spare, cut to what was written.
+pub fn image_of(stride: u32, list: &[u32]) -> (Vec<u32>, Vec<u16>) {
+    let nodes_most = 2 + list.len() / 3 * 32;
+    let mut nodes = vec![UNTOUCHED; NODE_WORDS * nodes_most];
+    let mut ports = vec![UNTOUCHED_PORT; 16 * nodes_most];
+    let answer = image_build(stride, list, &mut nodes, &mut ports);
+    assert_eq!((answer.number, answer.answer[0]), (0, 0));
+    let [_, node_count, port_count] = answer.answer.map(|count| count as usize);
+    assert!(nodes[NODE_WORDS * node_count..].iter().all(|word| *word == UNTOUCHED));
+    assert!(ports[port_count..].iter().all(|port| *port == UNTOUCHED_PORT));
+    nodes.truncate(NODE_WORDS * node_count);
+    ports.truncate(port_count);
+    (nodes, ports)
 }
 
 /// Whether the first `count` bits of two addresses agree, bit by bit.

@@ -28,7 +28,7 @@ pub fn races(subject: &Subject) -> Vec<Race<'_>> {
 
 fn image_build<'a>(subject: &'a Subject, stride: u32, what: &'static str) -> Race<'a> {
     let list = &subject.list;
-    let room = || (vec![0; 3 * 130_000], vec![0; 450_000]);
+    let room = || (vec![0; 2 * 130_000], vec![0; 450_000]);
     let (mut nodes, mut ports) = room();
     let (mut other_nodes, mut other_ports) = room();
     Race::new(what)

@@ -1,8 +1,6 @@
-use mathlib.Core.Path.{ap}
 use native.Mathlib.Omega.{arith}
 use denote.Ref.{now}
 use Rattle.routes.specs.Routes.{routeAt}
-use Rattle.image_stretch.specs.declared.Filled.{Filled}
 use Rattle.image_stretch.specs.Stretches.{stretchSlots}
 use Rattle.image_stretch.specs.Memory.{pendingAt}
 use Rattle.image_build.proofs.NodeStep.{fill-needs, node-built}
@@ -12,7 +10,7 @@ use Rattle.image_build.proofs.fill.build_node.Tie as tie
 
 pending-at-requires : tie.Need-pending-at-requires
 pending-at-requires c κs =
-    let p = c .before .before .before .before .pre in record { positive = p .1; within = omega (arith, p .2, p .6) }
+    let p = c .before .before .before .before .pre in record { positive = p .1; within = omega (arith, p .2, p .5) }
 
 fill-node-requires : tie.Need-fill-node-requires
 fill-node-requires c κs =
@@ -20,12 +18,12 @@ fill-node-requires c κs =
     let a = d .args in
     let x = c .before .before .pending-at in
     let r = fill-needs (stretchSlots 32 (routeAt (now (a .list))) (a .stride) (a .slots)) 32 (routeAt (now (a .list))) (a .stride) (a .slots) (now (a .nodes)) (now (a .ports)) (a .st .node .0) (a .st .leaf .0)
-    (x .result) (pendingAt (now (a .nodes)) (a .at .0)) (x .ensures) (d .pre .5) (d .pre .6) (d .pre .7) in
+    (x .result) (pendingAt (now (a .nodes)) (a .at .0)) (x .ensures) (d .pre .4) (d .pre .5) (d .pre .6) in
     (d .pre .0, r .0, omega (arith, d .pre .2), r .1, r .2)
 
 put-node-requires : tie.Need-put-node-requires
 put-node-requires c κs =
-    let p = c .before .before .before .before .before .before .before .before .before .before .before .before .before .pre in (record { positive = p .1; within = omega (arith, p .2, p .6) }, p .3, p .4)
+    let p = c .before .before .before .before .before .before .before .before .before .before .before .before .before .pre in (record { positive = p .1; within = omega (arith, p .2, p .5) }, p .3)
 
 same-length : tie.Need-same-length
 same-length c = search needs

@@ -47,7 +47,6 @@ build-node-requires c κs =
       q .1,
       q .2,
       q .3,
-      q .4,
     )
 
 plus-requires : tie.Need-plus-requires Inv-loop μ-loop

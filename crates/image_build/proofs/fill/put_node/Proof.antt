@@ -8,16 +8,13 @@ use borrow.Author.Needs.{needs}
 use Rattle.image_build.proofs.fill.put_node.Statement.{statement}
 use Rattle.image_build.proofs.fill.put_node.Tie as tie
 
-offset-to-requires : tie.Need-offset-to-requires
-offset-to-requires c κs = search needs
+to-requires : tie.Need-to-requires
+to-requires c κs = search needs
 
-cast-t9 : tie.Need-cast-t9
-cast-t9 c =
+cast-offset : tie.Need-cast-offset
+cast-offset c =
     let p = c .before .before .before .before .before .pre in
-    omega (arith, c .before .offset-to .ensures .1, p .0 .positive, p .1)
-
-cast-t10 : tie.Need-cast-t10
-cast-t10 c = search needs
+    omega (arith, c .before .to .ensures, p .0 .positive, p .1)
 
 store-node-requires : tie.Need-store-node-requires
 store-node-requires c κs = search needs
@@ -27,14 +24,13 @@ same-length c = search needs
 
 returns : tie.Need-returns
 returns c =
-    let d = c .before .before .before .before .before .before .before .before .before .before in
+    let d = c .before .before .before .before .before .before .before .before .before in
     let a = d .args in
-    let o = c .before .before .before .before .before .before .offset-to in (
+    let o = c .before .before .before .before .before .to in (
       refl,
-      c .before .before .store-node .ensures ∙ store-node-lent (now (a .nodes)) (a .at .0) (nodeWords (a .f .bitmap) (o .result .0) (a .st .leaf .0)) (d .pre .0)
-          ∙ ap (λ (n : ℕ). storeNodes (now (a .nodes)) (a .at .0) (nodeWords (a .f .bitmap) n (a .st .leaf .0))) (o .ensures .0),
+      c .before .before .store-node .ensures ∙ store-node-lent (now (a .nodes)) (a .at .0) (nodeWords (a .f .bitmap) (o .result .0)) (d .pre .0)
+          ∙ ap (λ (n : ℕ). storeNodes (now (a .nodes)) (a .at .0) (nodeWords (a .f .bitmap) n)) (o .ensures),
     )
 
 pub put-node-spec : {M : Type 1} → statement M
-put-node-spec =
-    tie.close (tie.spec offset-to-requires cast-t9 cast-t10 store-node-requires same-length returns)
+put-node-spec = tie.close (tie.spec to-requires cast-offset store-node-requires same-length returns)

@@ -8,9 +8,13 @@ use native.Mathlib.Nat.{le-trans, mul-le-mul, mul-le-mul-right, div-mul-le-self}
 use lib.Dec.{eqb}
 use lib.ListN.{length, set, replicate, length-replicate}
 use lib.Pow.{pow-mono, pow-pos}
-use lib.Seq.{sets}
+use lib.Seq.{sets, length-sets}
 use borrow.Author.Tests.{eq-eqb, ne-eqb, eqb-true}
+use Rattle.lists.specs.Flat.{flat}
+use Rattle.lists.specs.Numbered.{listOf}
 use Rattle.bits.specs.Prefix.{span}
+use Rattle.entries.specs.Entries.{filled}
+use Rattle.entries.proofs.Filled.{stretch-none, filled-within}
 use Rattle.routes.specs.declared.Route.{Route}
 use Rattle.image_rules.specs.Breadth.{Slot, leaf, nonLeaf, slotPorts}
 use Rattle.image_nodes.specs.declared.Leaf.{Leaf}
@@ -18,19 +22,8 @@ use Rattle.image_stretch.specs.declared.Stretch.{Stretch}
 use Rattle.image_stretch.specs.declared.Filled.{Filled}
 use Rattle.image_stretch.specs.Memory.{filledLeaves, owed, keptAfter}
 use Rattle.image_stretch.specs.Needs.{Clear}
-use Rattle.image_stretch.proofs.SlotLoop.{sets-append}
+use Rattle.image_stretch.proofs.SlotLoop.{SlotsDone, sets-append}
 use Rattle.image_build.specs.Needs.{mostSlots}
-
--- one port more
-pub ports-more : (ports : List ℕ) (i past p : ℕ) → i < past
-    → sets (set ports i p) (i + 1) (replicate (past - (i + 1)) p) ≡ sets ports i (replicate (past - i) p)
-ports-more ports i past p h =
-    let e : past - i ≡ suc (past - (i + 1)) = omega arith in
-    let one : i + 1 ≡ suc i = omega arith in
-    ap (λ (k : ℕ). sets (set ports i p) k (replicate (past - (i + 1)) p)) one ∙ sym (ap (λ (k : ℕ). sets ports i (replicate k p)) e)
-
-pub ports-all : (ports : List ℕ) (i past p : ℕ) → past ≤ i → sets ports i (replicate (past - i) p) ≡ ports
-ports-all ports i past p h = let e : past - i ≡ 0 = omega arith in ap (λ (k : ℕ). sets ports i (replicate k p)) e
 
 -- whole slots of n addresses below a distance d
 slots-le : (r n d : ℕ) → r ≤ d / n → r * n ≤ d
@@ -67,7 +60,7 @@ pub owed-ends : (ports stored : List ℕ) (kept place after best p : ℕ) (o : S
     → (k : ℕ) → k ≡ keptAfter kept place after → owed (set stored place p) k after best ≡ sets (owed ports kept place best) place (slotPorts o)
 owed-ends ports stored kept place after best p o e f g k h =
     ap (λ (m : ℕ). owed (set stored place p) m after best) (h ∙ ap (λ (b : Bool). cond b kept after) (ne-eqb place after (λ z. omega arith)))
-    ∙ ports-all (set stored place p) after after best (omega arith)
+    ∙ stretch-none (set stored place p) after after best (omega arith)
     ∙ ap (λ (l : List ℕ). set l place p) g
     ∙ ap (λ (u : Slot Stretch). sets (owed ports kept place best) place (slotPorts u)) (sym e)
 
@@ -91,3 +84,11 @@ kept-le kept before after next h e = by (eqb before after) refl
     by : (b : Bool) → eqb before after ≡ b → next ≤ after
     by true t = let z : next ≡ kept = e ∙ ap (λ (b : Bool). cond b kept after) t in omega (arith, z, eqb-true before after t)
     by false t = let z : next ≡ after = e ∙ ap (λ (b : Bool). cond b kept after) t in omega (arith, z)
+
+-- after the last slot all ports have room, so that those still owed are stored
+pub owed-all : {f : ℕ → Slot Stretch} {m next base j : ℕ} {nodes₀ ports₀ nodes : List ℕ} (ports stored : List ℕ) (kept best : ℕ) (st : Filled)
+    → SlotsDone f m nodes₀ ports₀ next base nodes (owed ports kept (st .leaf .0) best) j st → base + length (flat slotPorts (listOf f m 0)) ≤ length ports₀
+    → stored ≡ filled ports kept (st .leaf .0) best → stored ≡ owed ports kept (st .leaf .0) best
+owed-all ports stored kept best st l room e =
+    e ∙ filled-within ports kept (st .leaf .0) best
+    (omega (arith, l .same .leaves, room, l .portsLent, length-sets ports kept (replicate (st .leaf .0 - kept) best)))

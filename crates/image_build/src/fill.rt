@@ -2,7 +2,7 @@
 ghost use mathlib.Core.Path.{_≡_};
 ghost use mathlib.Core.List.{[], _∷_};
 ghost use Prim.Native.Nat.{ℕ, _+_, _-_, _*_, _/_, _^_, _<_, _≤_};
-ghost use lib.ListN.{length, replicate};
+ghost use lib.ListN.{length};
 ghost use lib.Seq.{sets};
 ghost use Rattle.promise.specs.Over.{over};
 ghost use Rattle.routes.specs.Routes.{routeAt};
@@ -15,6 +15,7 @@ ghost use Rattle.image_stretch.specs.Stretches.{halfWord, shortAfter, slotStret
 ghost use Rattle.image_stretch.specs.Memory.{inHalves, pending, pendingAt, free, filled, filledBy, filledLeaves, owed, keptAfter, buildNode};
 ghost use Rattle.image_stretch.specs.Needs.{Fits, Clear, Buildable, Queue};
 ghost use Rattle.image_build.specs.Needs.{mostSlots, ImageRoom};
+use entries::fill;
 use image_nodes::Distance;
 use image_nodes::Leaf;
 use image_nodes::Node;
@@ -111,18 +112,6 @@ fn find_slot(
     slot_stretch(list, x, short, route, Prefix::new(value as u32, depth))
 }
 
-// One port for the leaves from a place on, up to another.
-fn store_ports(ports: &mut [u16], place: usize, past: usize, port: u16)
-    requires { ⌜ (place ≤ past) × (past ≤ length (now ports)) ⌝ }
-    ensures { λ _. ⌜ now (ports .exit) ≡ sets (now (ports .entry)) place (replicate (past - place) port) ⌝ }
-{
-    let mut i = place;
-    while i < past {
-        ports[i] = port;
-        i += 1;
-    }
-}
-
 // One slot: a leaf's port, after those that are still owed; or a node still to do.
 fn fill_slot(
     list: &[u32],
@@ -151,7 +140,7 @@ fn fill_slot(
         };
     }
     let place = leaf.0;
-    store_ports(ports, kept, place, best as u16);
+    fill(ports, kept, place, best as u16);
     ports[place] = leaf_port(list, y) as u16;
     Filled {
         bitmap: st.bitmap * 2 + 1,
@@ -294,7 +283,7 @@ fn fill_node(
         j += 1;
     }
     let past = st.leaf;
-    store_ports(ports, kept, past.0, x.best as u16);
+    fill(ports, kept, past.0, x.best as u16);
     st
 }
 

@@ -9,7 +9,7 @@ use Rattle.routes.specs.Routes.{ValidList}
 use Rattle.routes.specs.Scan.{routeMatches, lastMatch}
 use Rattle.routes.specs.declared.Route.{Route}
 use Rattle.lists.proofs.Tests.{lt-or-le}
-use Rattle.image_stretch.specs.Stretches.{stretch, past, carried, lastFrom, standsBefore, under, slotStretchAt, slotStretch, seekFrom, sought, fromAt, toAt, fromOf, toOf}
+use Rattle.image_stretch.specs.Stretches.{stretch, past, carried, lastFrom, standsBefore, under, slotStretchAt, seekFrom, sought, fromAt, toAt}
 use Rattle.image_stretch.specs.declared.Stretch.{Stretch}
 use Rattle.image_stretch.specs.declared.search.Sought.{Sought}
 
@@ -70,14 +70,6 @@ module _ (w : ℕ) (R : ℕ → Route) where
       let z : i + 1 - lo ≡ suc (i - lo) = omega arith in
       let y : i ≡ lo + (i - lo) = omega arith in
       f ∙ rw z (ap₂ (λ (m p : ℕ). cond (routeMatches w a (R m)) (carried (R m)) p) y e)
-
-  -- the addresses that the first k routes match alike have one last match
-  pub last-match-alike : (k a b : ℕ) → ((i : ℕ) → i < k → routeMatches w a (R i) ≡ routeMatches w b (R i))
-      → lastMatch w R k a ≡ lastMatch w R k b
-  unfolding lastMatch
-  last-match-alike zero a b h = refl
-  last-match-alike (suc k) a b h =
-      ap₂ (λ (t : Bool) (p : ℕ). cond t (R k .port) p) (h k (omega arith)) (last-match-alike k a b (λ i l. h i (omega arith)))
 
   -- routes that do not match make no difference
   pub last-match-none : (a k m : ℕ) → ((i : ℕ) → k ≤ i → i < k + m → routeMatches w a (R i) ≡ false)

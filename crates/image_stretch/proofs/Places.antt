@@ -18,8 +18,9 @@ use Rattle.routes.specs.Scan.{routeMatches, lastMatch}
 use Rattle.routes.specs.declared.Route.{Route}
 use Rattle.routes.proofs.Rising.{before}
 use Rattle.image_stretch.specs.declared.Stretch.{Stretch}
-use Rattle.image_stretch.specs.Stretches.{stretch, past, lastFrom, standsBefore, under, fromOf, toOf, slotStretch, addressOf, slotAddress}
-use Rattle.image_stretch.proofs.FirstAndLast.{Passed, passed, last-match-alike, last-from-is}
+use Rattle.image_stretch.specs.Stretches.{lastFrom, standsBefore, under, fromOf, toOf, slotStretch, addressOf, slotAddress}
+use Rattle.image_stretch.proofs.FirstAndLast.{Passed, passed, last-from-is}
+use Rattle.routes.proofs.Scan.{last-match-alike}
 
 -- route i stands before the prefix v/l
 abbrev pub StandsBefore : (ℕ → Route) → ℕ → ℕ → ℕ → Type 0

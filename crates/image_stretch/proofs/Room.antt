@@ -1,15 +1,12 @@
 -- What the builder's loop relies on holds for a valid list where there is room for its image. Assumes nothing.
 use mathlib.Core.Path.{_≡_, refl, sym, ap, _∙_}
-use mathlib.Core.Bool.{Bool, true, false, cond}
 use mathlib.Core.List.{List, [], _++_}
-use Prim.Native.Nat.{ℕ, zero, suc, _+_, _-_, _*_, _/_, _^_, _≤_, _<_}
+use Prim.Native.Nat.{ℕ, _+_, _-_, _*_, _/_, _^_, _≤_, _<_}
 use native.Mathlib.Omega.{arith}
 use lib.ListN.{length, drop}
 use lib.Seq.{sets, drop-append-add, drop-drop}
 use Rattle.promise.specs.Over.{over}
 use Rattle.routes.specs.Routes.{routeAt, ValidList}
-use Rattle.routes.specs.Bounds.{lastPort}
-use Rattle.routes.specs.Scan.{routeMatches, lastMatch}
 use Rattle.routes.specs.declared.Route.{Route}
 use Rattle.image_rules.specs.Node.{nodeSize, storeNodes}
 use Rattle.image_rules.specs.Breadth.{treePorts}
@@ -23,19 +20,11 @@ use Rattle.image_stretch.specs.Count.{nodesCount}
 use Rattle.image_stretch.specs.Memory.{pending}
 use Rattle.image_stretch.specs.Needs.{Buildable, Queue}
 use Rattle.bits.proofs.Prefix.{start}
+use Rattle.routes.proofs.Scan.{last-match-le}
 use Rattle.image_stretch.proofs.Trees.{Stands, fits-of, length-stretches, stretches-image, stretches-numbered, stretches-before, stretches-stand}
 use Rattle.image_stretch.proofs.Parting.{stands-parted}
 use Rattle.image_stretch.proofs.Counting.{count-is}
 use Rattle.image_stretch.proofs.QueueStep.{sets-seam}
-
-last-match-le : (w : ℕ) (R : ℕ → Route) (n : ℕ) → ValidList w R n → (a k : ℕ) → k ≤ n → lastMatch w R k a ≤ lastPort
-unfolding lastMatch
-last-match-le w R n ok a zero h = omega arith
-last-match-le w R n ok a (suc k) h = by (routeMatches w a (R k)) (last-match-le w R n ok a k (omega arith))
-  where
-    by : (b : Bool) → lastMatch w R k a ≤ lastPort → cond b (R k .port) (lastMatch w R k a) ≤ lastPort
-    by true l = ok .each k (omega arith) .most
-    by false l = l
 
 module _ (w s : ℕ) (list : List ℕ) (n : ℕ) (st : Strided w s) (ok : ValidList w (routeAt list) n) where
   abbrev R : ℕ → Route

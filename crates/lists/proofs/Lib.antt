@@ -5,3 +5,4 @@ pub mod Numbered
 pub mod Sum
 pub mod Sets
 pub mod InOrder
+pub mod Below

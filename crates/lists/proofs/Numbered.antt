@@ -4,7 +4,8 @@ use mathlib.Core.Logic.{_⊎_, inl, inr}
 use mathlib.Core.List.{List, [], _∷_, _++_, map, List·Memᴰ, List·Memᴰ·cases-cons, List·Memᴰ·not-nil}
 use Prim.Native.Nat.{ℕ, zero, suc, _+_, _≤_, _<_}
 use native.Mathlib.Omega.{arith}
-use lib.ListN.{length, getD}
+use native.Mathlib.Nat.{zero-add}
+use lib.ListN.{length, getD, replicate}
 use Rattle.lists.specs.Numbered.{listOf}
 
 module _ {X : Type 0} where
@@ -14,6 +15,22 @@ module _ {X : Type 0} where
   list-of-snoc R (suc k) i =
       let e : i + 1 + k ≡ i + suc k = omega arith in
       ap (λ (xs : List X). R i ∷ xs) (list-of-snoc R k (i + 1) ∙ ap (λ (j : ℕ). listOf R k (i + 1) ++ (R j ∷ [])) e)
+
+  pub list-of-append : (R : ℕ → X) (k m i : ℕ) → listOf R (k + m) i ≡ listOf R k i ++ listOf R m (i + k)
+  unfolding listOf
+  list-of-append R zero m i = let e : i + 0 ≡ i = omega arith in rw (zero-add m, e)
+  list-of-append R (suc k) m i =
+      let s : suc k + m ≡ suc (k + m) = omega arith in
+      let e : i + 1 + k ≡ i + suc k = omega arith in
+      rw s (ap (λ (xs : List X). R i ∷ xs) (list-of-append R k m (i + 1) ∙ ap (λ (j : ℕ). listOf R k (i + 1) ++ listOf R m j) e))
+
+  -- elements that are all one
+  pub list-of-one : (R : ℕ → X) (x : X) (k i : ℕ) → ((j : ℕ) → i ≤ j → j < i + k → R j ≡ x) → listOf R k i ≡ replicate k x
+  unfolding listOf
+  list-of-one R x zero i e = refl
+  list-of-one R x (suc k) i e =
+      ap₂ (λ (y : X) (ys : List X). y ∷ ys) (e i (omega arith) (omega arith))
+      (list-of-one R x k (i + 1) (λ j u v. e j (omega arith) (omega arith)))
 
   pub length-list-of : (R : ℕ → X) (k i : ℕ) → length (listOf R k i) ≡ k
   unfolding listOf

@@ -1,11 +1,11 @@
 -- Output written one element, or three, after the other over the front of lent memory. Assumes nothing.
-use mathlib.Core.Path.{_≡_, refl, sym, ap, _∙_}
-use mathlib.Core.List.{List, [], _∷_, _++_, append-assoc}
-use Prim.Native.Nat.{ℕ, suc, _+_, _-_, _*_, _≤_, _<_}
+use mathlib.Core.Path.{_≡_, sym, ap, _∙_}
+use mathlib.Core.List.{List, [], _∷_, _++_, append-assoc, append-nil}
+use Prim.Native.Nat.{ℕ, suc, _+_, _-_, _≤_, _<_}
 use native.Mathlib.Omega.{arith}
 use native.Mathlib.Numerals.{add-one}
-use lib.ListN.{length, getD, set, drop, length-append, length-drop, length-set}
-use lib.Seq.{drop-cons, set-append-seam, append-snoc}
+use lib.ListN.{length, set, drop, length-append, length-drop}
+use lib.Seq.{drop-cons, set-append-seam, append-snoc, sets}
 use Rattle.promise.specs.Over.{over, storeThree}
 
 module _ {A : Type 0} where
@@ -19,6 +19,16 @@ module _ {A : Type 0} where
       ∙ set-append-seam out _ (drop (suc (length out)) lent) v
       ∙ sym (append-snoc out v (drop (suc (length out)) lent))
       ∙ ap (λ (n : ℕ). out ++ (v ∷ []) ++ drop n lent) (sym (length-append out (v ∷ []) ∙ add-one (length out)))
+
+  -- some more, one after the other
+  pub over-sets : (vs out lent : List A) (at : ℕ) → length out ≡ at → at + length vs ≤ length lent
+      → sets (over out lent) at vs ≡ over (out ++ vs) lent
+  over-sets [] out lent at e h = ap (λ (x : List A). over x lent) (sym (append-nil out))
+  over-sets (v ∷ vs) out lent at e h =
+      let l : length (out ++ (v ∷ [])) ≡ suc at = length-append out (v ∷ []) ∙ omega (arith, e) in
+      ap (λ (x : List A). sets x (suc at) vs) (over-push out lent v at e (omega arith))
+      ∙ over-sets vs (out ++ (v ∷ [])) lent (suc at) l (omega arith)
+      ∙ ap (λ (x : List A). over x lent) (append-snoc out v vs)
 
   pub length-over : (out lent : List A) → length out ≤ length lent → length (over out lent) ≡ length lent
   length-over out lent h = simp (length-append, length-drop) (omega arith)

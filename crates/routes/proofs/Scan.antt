@@ -1,5 +1,5 @@
 -- The plain scan takes the last match of a valid list: RULES, "The plain scan". Assumes nothing.
-use mathlib.Core.Path.{_≡_, refl, sym, ap, _∙_}
+use mathlib.Core.Path.{_≡_, refl, sym, ap, ap₂, _∙_}
 use mathlib.Core.Logic.{⊎-elim}
 use mathlib.Core.Bool.{Bool, true, false, cond, _&&_}
 use mathlib.Core.List.{List, [], _∷_, _++_, List·Memᴰ, List·Memᴰ·head, List·Memᴰ·tail}
@@ -12,6 +12,7 @@ use borrow.Author.Tests.{le-leb, lt-leb, eq-eqb, ne-eqb}
 use Rattle.lists.proofs.Tests.{way}
 use Rattle.trie.specs.Scan.{longest, plainScan}
 use Rattle.refusals.specs.Refusals.{accepted, andThen}
+use Rattle.routes.specs.Bounds.{lastPort}
 use Rattle.routes.specs.Routes.{routeAt, routeCount, ValidList, Words}
 use Rattle.lists.specs.Numbered.{listOf}
 use Rattle.routes.specs.Check.{listCheck}
@@ -92,6 +93,27 @@ scan-of-last w R n a ok (suc k) h =
 
 pub scan-is-last : ScanIsLast
 scan-is-last w R n a ok = scan-of-last w R n a ok n (omega arith)
+
+-- no port is above 4094
+pub last-match-le : (w : ℕ) (R : ℕ → Route) (n : ℕ) → ValidList w R n → (a k : ℕ) → k ≤ n → lastMatch w R k a ≤ lastPort
+unfolding lastMatch
+last-match-le w R n ok a zero h = omega arith
+last-match-le w R n ok a (suc k) h = by (routeMatches w a (R k)) (last-match-le w R n ok a k (omega arith))
+  where
+    by : (b : Bool) → lastMatch w R k a ≤ lastPort → cond b (R k .port) (lastMatch w R k a) ≤ lastPort
+    by true l = ok .each k (omega arith) .most
+    by false l = l
+
+pub scan-le : (w : ℕ) (R : ℕ → Route) (n : ℕ) → ValidList w R n → (a : ℕ) → scanOf w R n a ≤ lastPort
+scan-le w R n ok a = rw (scan-is-last w R n a ok) (last-match-le w R n ok a n (omega arith))
+
+-- the addresses that the first k routes match alike have one last match
+pub last-match-alike : (w : ℕ) (R : ℕ → Route) (k a b : ℕ) → ((i : ℕ) → i < k → routeMatches w a (R i) ≡ routeMatches w b (R i))
+    → lastMatch w R k a ≡ lastMatch w R k b
+unfolding lastMatch
+last-match-alike w R zero a b h = refl
+last-match-alike w R (suc k) a b h =
+    ap₂ (λ (t : Bool) (p : ℕ). cond t (R k .port) p) (h k (omega arith)) (last-match-alike w R k a b (λ i l. h i (omega arith)))
 
 -- the scan of a list as the code goes: one match more, and the answers
 pub last-match-more : (w : ℕ) (R : ℕ → Route) (i a port next : ℕ) (r : Route) → r ≡ R i → port ≡ lastMatch w R i a

@@ -6,6 +6,7 @@ use denote.Ref.{now}
 use lib.ListN.{length, replicate}
 use lib.Pow.{pow-mono}
 use lib.Seq.{length-sets}
+use Rattle.entries.proofs.Filled.{stretch-none}
 use Rattle.routes.specs.Routes.{routeAt}
 use Rattle.image_stretch.specs.declared.Filled.{Filled}
 use Rattle.image_stretch.specs.Memory.{filled, owed}
@@ -13,7 +14,7 @@ use Rattle.image_stretch.specs.Needs.{Clear}
 use Rattle.image_stretch.specs.Stretches.{slotIn, addressOf, stretchSlot}
 use Rattle.image_stretch.proofs.Resuming.{Resumed, resumed-none, resumed-later, resumed-more, clear-slot}
 use Rattle.image_stretch.proofs.SlotLoop.{SlotsDone, slot-loop-none, slot-loop-more, slot-loop-room, slot-loop-leaves, slot-loop-leaves-room, slot-loop-all}
-use Rattle.image_build.proofs.LeafSlots.{ports-all, owed-more, kept-le}
+use Rattle.image_build.proofs.LeafSlots.{owed-more, owed-all, kept-le}
 use Rattle.image_build.proofs.SlotReturns.{slot-found, slot-needs}
 use borrow.Author.Needs.{needs}
 use Rattle.image_build.proofs.fill.fill_node.Statement.{statement}
@@ -43,7 +44,7 @@ loop-holds c =
     let d = c .before .before .before .before .before .before .before .before in
     let a = d .args in (
       subst (λ (ps : List ℕ). SlotsDone (stretchSlot 32 (routeAt (now (a .list))) (a .stride) (a .x)) (a .slots) (now (a .nodes)) (now (a .ports)) (a .at .node .0) (a .at .leaf .0) (now (a .nodes)) ps 0 (filled 0 (a .at .node .0) (a .at .leaf .0)))
-          (sym (ports-all (now (a .ports)) (a .at .leaf .0) (a .at .leaf .0) (a .x .best) (omega arith)))
+          (sym (stretch-none (now (a .ports)) (a .at .leaf .0) (a .at .leaf .0) (a .x .best) (omega arith)))
           (slot-loop-none (stretchSlot 32 (routeAt (now (a .list))) (a .stride) (a .x)) (a .slots) (now (a .nodes)) (now (a .ports)) (a .at .node .0) (a .at .leaf .0) (d .pre .2)),
       resumed-none 32 (routeAt (now (a .list))) (a .stride) (a .slots) (a .x) (d .pre .1 .fits),
       subst (λ (k : ℕ). Clear 32 (routeAt (now (a .list))) (a .slots) (a .x) (a .x .lo) (a .x .lo) k (a .x .depth + a .stride) (c .clear-to .result)) (c .before .before .before .before .address-of .ensures) (c .clear-to .ensures),
@@ -139,21 +140,20 @@ loop-again-2 c =
       kept-le (l .kept) (l .st .leaf .0) (f .result .leaf .0) (k .result) (l .inv .3) (k .ensures),
     )
 
-cast-store-ports : tie.Need-cast-store-ports Inv-loop μ-loop
-cast-store-ports c = omega (arith, c .before .before .before .before .before .before .before .before .before .before .before .before .before .pre .1 .fits .portFits)
+cast-fill : tie.Need-cast-fill Inv-loop μ-loop
+cast-fill c = omega (arith, c .before .before .before .before .before .before .before .before .before .before .before .before .before .pre .1 .fits .portFits)
 
-store-ports-requires : tie.Need-store-ports-requires Inv-loop μ-loop
-store-ports-requires c κs =
-    let d = c .before .before .before .before .before .before .before .before .before .before .before .before .before in
-    let a = d .args in
-    let l = c .before .before .before .before .loop in
-    (l .inv .3, omega (arith, l .inv .0 .same .leaves, d .pre .4, l .inv .0 .portsLent, length-sets (l .ports) (l .kept) (replicate (l .st .leaf .0 - l .kept) (a .x .best))))
+fill-requires : tie.Need-fill-requires Inv-loop μ-loop
+fill-requires c κs = search needs
 
 same-length : tie.Need-same-length Inv-loop μ-loop
 same-length c = c .before .before .before .before .before .before .before .loop .inv .0 .nodesLent
 
 same-length-2 : tie.Need-same-length-2 Inv-loop μ-loop
-same-length-2 c = ap length (c .before .before .store-ports .ensures) ∙ c .before .before .before .before .before .before .before .loop .inv .0 .portsLent
+same-length-2 c =
+    let d = c .before .before .before .before .before .before .before .before .before .before .before .before .before .before .before .before in
+    let l = c .before .before .before .before .before .before .before .loop in
+    ap length (owed-all (l .ports) _ (l .kept) (d .args .x .best) (l .st) (l .inv .0) (d .pre .4) (c .before .before .fill .ensures)) ∙ l .inv .0 .portsLent
 
 returns : tie.Need-returns Inv-loop μ-loop
 returns c =
@@ -161,7 +161,7 @@ returns c =
     let a = d .args in
     let l = c .before .before .before .before .before .before .before .loop in
     let o = slot-loop-all (stretchSlot 32 (routeAt (now (a .list))) (a .stride) (a .x)) (a .slots) (now (a .nodes)) (now (a .ports)) (a .at .node .0) (a .at .leaf .0) (l .nodes) (owed (l .ports) (l .kept) (l .st .leaf .0) (a .x .best)) (l .j) (l .st) (l .inv .0) (c .before .before .before .before .before .before .loop-test .left) in
-    (o .0, o .1, _∙_ {b = owed (l .ports) (l .kept) (l .st .leaf .0) (a .x .best)} (c .before .before .store-ports .ensures) (o .2))
+    (o .0, o .1, owed-all (l .ports) _ (l .kept) (a .x .best) (l .st) (l .inv .0) (d .pre .4) (c .before .before .fill .ensures) ∙ o .2)
 
 pub fill-node-spec : {M : Type 1} → statement M
 fill-node-spec =
@@ -184,8 +184,8 @@ fill-node-spec =
     add-j
     loop-less-2
     loop-again-2
-    cast-store-ports
-    store-ports-requires
+    cast-fill
+    fill-requires
     same-length
     same-length-2
     returns)

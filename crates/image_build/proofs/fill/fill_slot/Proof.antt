@@ -4,6 +4,7 @@ use native.Mathlib.Omega.{arith}
 use denote.Ref.{now}
 use lib.ListN.{length, replicate}
 use lib.Seq.{length-sets}
+use Rattle.entries.proofs.Filled.{filled-within}
 use Rattle.routes.specs.Routes.{routeAt}
 use Rattle.lists.specs.Flat.{flat}
 use Rattle.image_rules.specs.Node.{storeNodes}
@@ -50,11 +51,11 @@ returns c =
       owed-goes (now (a .ports)) (a .kept) (a .st .leaf .0) (a .best) (slotIn (routeAt (now (a .list))) (a .y)) o,
     )
 
-cast-store-ports : tie.Need-cast-store-ports
-cast-store-ports c = search needs
+cast-fill : tie.Need-cast-fill
+cast-fill c = search needs
 
-store-ports-requires : tie.Need-store-ports-requires
-store-ports-requires c κs = search needs
+fill-requires : tie.Need-fill-requires
+fill-requires c κs = search needs
 
 leaf-port-requires : tie.Need-leaf-port-requires
 leaf-port-requires c κs = search needs
@@ -73,7 +74,7 @@ slice-write-ports c =
     let a = d .args in
     let o = slot-ends (routeAt (now (a .list))) (a .y) _ _ (c .before .before .before .before .before .before .goes-on .ensures) (c .before .before .before .before .before .if1 .left) (c .leaf-port .ensures) in
     let n : length (slotPorts (slotIn (routeAt (now (a .list))) (a .y))) ≡ 1 = ap (λ (s : Slot Stretch). length (slotPorts s)) o in
-    let q = c .before .before .before .store-ports .ensures in
+    let q = c .before .before .before .fill .ensures ∙ filled-within (now (a .ports)) (a .kept) (a .st .leaf .0) (a .best) (omega (arith, d .pre .7)) in
     omega (arith, n, d .pre .7, ap length q, length-sets (now (a .ports)) (a .kept) (replicate (a .st .leaf .0 - a .kept) (a .best)))
 
 mul-t22 : tie.Need-mul-t22
@@ -94,10 +95,11 @@ returns-2 c =
     let a = d .args in
     let o = slot-ends (routeAt (now (a .list))) (a .y) _ _ (c .before .before .before .before .before .before .before .before .goes-on .ensures) (c .before .before .before .before .before .before .before .if1 .left) (c .before .before .leaf-port .ensures) in
     let n : length (slotPorts (slotIn (routeAt (now (a .list))) (a .y))) ≡ 1 = ap (λ (s : Slot Stretch). length (slotPorts s)) o in
+    let q = c .before .before .before .before .before .fill .ensures ∙ filled-within (now (a .ports)) (a .kept) (a .st .leaf .0) (a .best) (omega (arith, d .pre .7)) in
     let next : c .after .result .0 ≡ a .st .leaf .0 + 1 = omega (arith, c .after .ensures, n, d .pre .7) in (
       filled-ends (slotIn (routeAt (now (a .list))) (a .y)) _ (a .st) (c .after .result) o next,
       ap (λ (s : Slot Stretch). storeNodes (now (a .nodes)) (a .st .node .0) (flat pending (slotChildren s))) (sym o),
-      owed-ends (now (a .ports)) _ (a .kept) (a .st .leaf .0) (c .after .result .0) (a .best) (c .before .before .leaf-port .result) (slotIn (routeAt (now (a .list))) (a .y)) o next (c .before .before .before .before .before .store-ports .ensures),
+      owed-ends (now (a .ports)) _ (a .kept) (a .st .leaf .0) (c .after .result .0) (a .best) (c .before .before .leaf-port .result) (slotIn (routeAt (now (a .list))) (a .y)) o next q,
     )
 
 pub fill-slot-spec : {M : Type 1} → statement M
@@ -110,8 +112,8 @@ fill-slot-spec =
     plus-requires
     same-length
     returns
-    cast-store-ports
-    store-ports-requires
+    cast-fill
+    fill-requires
     leaf-port-requires
     cast-ports
     mul-ports

@@ -1,0 +1,3 @@
+-- Laws of stores of entries.
+pub mod Filled
+pub mod Unique

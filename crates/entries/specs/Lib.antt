@@ -1,0 +1,2 @@
+-- Stores of 16-bit entries.
+pub mod Entries

@@ -7,7 +7,7 @@ help:
 	@echo "make prove       prove every crate that has changed, and run the programs"
 	@echo "make lib         leave libmaftehon.a and its header in target/lib"
 	@echo "make fuzz        compare the library with the reference on fresh seeds for SECONDS=60"
-	@echo "make exhaustive  compare both tries with the run listing at all 2^32 addresses (35 minutes)"
+	@echo "make exhaustive  compare both tries and the segment tables with the run listing at all 2^32 addresses (35 minutes)"
 	@echo "make bench       measure the library against plain Rust and C, print a table, draw docs/speed.svg"
 	@echo "make runs        print the runs of examples/floor.routes, or of FILE=..."
 	@echo "make layout      lay out every .rt and .antt file"

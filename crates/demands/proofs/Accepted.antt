@@ -2,15 +2,16 @@
 -- nothing.
 use mathlib.Core.Path.{_≡_, refl, ap, subst, _∙_}
 use mathlib.Core.List.{List, [], _∷_}
-use Prim.Native.Nat.{ℕ, _-_, _^_}
+use Prim.Native.Nat.{ℕ, _-_, _^_, _≤_}
 use native.Mathlib.Omega.{arith}
 use lib.Count.{ones, onesIn}
-use lib.ListN.{replicate}
+use lib.ListN.{length, getD, replicate}
 use Rattle.promise.specs.Over.{Outcome}
 use Rattle.bits.specs.Bits.{bits}
 use Rattle.trie.specs.Scan.{longest, plainScan}
 use Rattle.trie.specs.Routes.{Route as BitRoute}
 use Rattle.refusals.specs.Refusals.{accepted}
+use Rattle.refusals.specs.Reply.{Reply}
 use Rattle.refusals.specs.declared.Answer.{Answer}
 use Rattle.routes.specs.Routes.{routeAt}
 use Rattle.lists.specs.Numbered.{listOf}
@@ -30,12 +31,20 @@ use Rattle.runs_rules.specs.Runs.{Run, run, Lists}
 use Rattle.runs_rules.specs.Listing.{writeRuns}
 use Rattle.runs_rules.proofs.Listing.{listed-lists, listed-none, list-runs-done}
 use Rattle.table_runs.specs.TableRuns.{tableRoutes, tableRuns}
+use Rattle.segment_rules.specs.Tables.{firstSize}
+use Rattle.segment_rules.specs.Build.{Stores, buildSegments}
+use Rattle.maftehon.specs.Reply.{Segmented}
+use Rattle.demands.specs.SegmentChecks.{SixteenBits}
+use Rattle.demands.specs.Boundary.{Boundary}
+use Rattle.demands.specs.Demands.{Demand1}
 use Rattle.demands.specs.Impostors.{NoCallRefusesAll}
 use Rattle.demands.proofs.Decided.{demand-1-decides}
 use Rattle.demands.proofs.OfLists.{read-refuses, write-refuses, check-refuses, list-runs-refuses}
 use Rattle.demands.proofs.OfTables.{table-check-refuses, build-refuses, save-refuses, table-runs-refuses}
 use Rattle.demands.proofs.OfImages.{image-build-refuses, image-lookup-refuses}
+use Rattle.demands.proofs.OfSegments.{segments-build-refuses, words-on}
 use Rattle.demands.proofs.Images.{image-is}
+use Rattle.demands.proofs.Roomy.{Roomy, few-built, zero-found, zeroStores, zeros-roomy, zeros-bits}
 
 abbrev pub wholeSpace : List ℕ
 wholeSpace = 0 ∷ 0 ∷ 1 ∷ []
@@ -76,6 +85,24 @@ whole-space-imaged =
 image-found : lookupWords 32 1 (3 ∷ 1 ∷ []) (0 ∷ 0 ∷ []) 0 .number ≡ 0
 unfolding lookupWords image.walk ones onesIn
 image-found = refl
+
+-- their segment tables, in stores with room
+pub no-routes-segmented : (s : Stores) → Roomy s → buildSegments [] s .built .number ≡ 0
+no-routes-segmented s room = few-built [] s no-routes-fine (omega arith) room
+
+pub whole-space-segmented : (s : Stores) → Roomy s → buildSegments wholeSpace s .built .number ≡ 0
+whole-space-segmented s room = few-built wholeSpace s whole-space-fine (omega arith) room
+
+module _ (B : Boundary) (d : Demand1 B) (s : Stores) where
+  segments-built : Roomy s → (x : Segmented) → B .segments-build [] s x → x .reply .number ≡ 0
+  segments-built room x m =
+      demand-1-decides .segments-build [] s _ _ _ _ (d .segments-build [] s x m .exact) (segments-build-refuses [] s .exact) .0
+      ∙ no-routes-segmented s room
+
+  segments-found : SixteenBits s → firstSize ≤ length (s .first) → getD (s .first) 0 0 ≡ 0 → (x : Reply) → B .segments-lookup s 0 x → x .number ≡ 0
+  segments-found bits long is x m =
+      demand-1-decides .segments-lookup s 0 _ _ _ _ (d .segments-lookup s 0 x bits m .exact) (words-on (λ _. 0) s 0 bits .exact) .0
+      ∙ zero-found s long is
 
 -- the runs of no route
 one-run : Lists (scanOf 32 (routeAt []) 0) (2 ^ 32) 0 (run 0 (2 ^ 32 - 1) 0 ∷ [])
@@ -148,4 +175,7 @@ no-call-refuses-all B d =
             (image-lookup-refuses 32 1 (3 ∷ 1 ∷ []) (0 ∷ 0 ∷ []) 0 .exact) .0
             ∙ image-found,
       );
+      segments-build = ([], zeroStores, segments-built B d zeroStores zeros-roomy);
+      segments-lookup = (zeroStores, 0, segments-found B d zeroStores zeros-bits (zeros-roomy .first) refl);
+      segments-entries = ([], [], 0, λ x m. d .segments-entries [] [] 0 x m .exact .0);
     }

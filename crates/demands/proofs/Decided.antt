@@ -6,7 +6,7 @@ use Prim.Native.Nat.{ℕ}
 use lib.Dec.{eqb}
 use borrow.Author.Tests.{eqb-false}
 use Rattle.demands.specs.Lamp.{Verdict, shows, whether, Decides, Without}
-use Rattle.demands.specs.Demands.{Demand1Decides}
+use Rattle.demands.specs.Demands.{Demand1Decides, EntriesDecided}
 use Rattle.demands.specs.Unused.{unused, NoThirteen}
 use Rattle.demands.proofs.EachCall.{each-call}
 
@@ -16,8 +16,18 @@ whether-decides P then else d e m p m′ p′ (inl x) (inr y) = absurd (y .0 (x 
 whether-decides P then else d e m p m′ p′ (inr x) (inl y) = absurd (x .0 (y .0))
 whether-decides P then else d e m p m′ p′ (inr x) (inr y) = e m p m′ p′ (x .1) (y .1)
 
+shows-decides : (number place : ℕ) → Decides (shows number place)
+shows-decides number place m p m′ p′ x y = (x .0 ∙ sym (y .0), x .1 ∙ sym (y .1))
+
 pub demand-1-decides : Demand1Decides
-demand-1-decides = each-call Decides (λ number place _ m p m′ p′ x y. (x .0 ∙ sym (y .0), x .1 ∙ sym (y .1))) whether-decides
+demand-1-decides = each-call Decides (λ number place _. shows-decides number place) whether-decides
+
+pub entries-decided : EntriesDecided
+entries-decided packed plain entry =
+    whether-decides _ _ _
+    (whether-decides _ _ _
+    (whether-decides _ _ _ (shows-decides 0 0) (shows-decides _ _)) (whether-decides _ _ _ (shows-decides 0 0) (shows-decides _ _)))
+    (shows-decides 0 0)
 
 shows-without : (number place : ℕ) → eqb number unused ≡ false → Without unused (shows number place)
 shows-without number place other m p x e = eqb-false number unused other (sym (x .0) ∙ e)
@@ -45,4 +55,7 @@ no-thirteen B d =
       table-runs = λ rows n runs o c. no .table-runs rows n runs _ _ (d .table-runs rows n runs o c .exact);
       image-build = λ s list nodes ports x c. no .image-build s list nodes ports _ _ (d .image-build s list nodes ports x c .exact);
       image-lookup = λ s nodes ports a x c. no .image-lookup s nodes ports a _ _ (d .image-lookup s nodes ports a x c .exact);
+      segments-build = λ list lent x c. no .segments-build list lent _ _ (d .segments-build list lent x c .exact);
+      segments-lookup = λ s a x bits c. no .segments-lookup s a _ _ (d .segments-lookup s a x bits c .exact);
+      segments-entries = λ packed plain entry x c. no .segments-entries _ _ (d .segments-entries packed plain entry x c .exact);
     }

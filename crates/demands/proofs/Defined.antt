@@ -21,6 +21,9 @@ defined-follows = record {
   table-runs = λ rows n runs o is. is;
   image-build = λ s list nodes ports x is. is;
   image-lookup = λ s nodes ports a x is. is;
+  segments-build = λ list lent x is. is;
+  segments-lookup = λ s a x is. is;
+  segments-entries = λ packed plain entry x is. is;
 }
 
 defined-ends : Ends defined
@@ -39,6 +42,9 @@ defined-ends = record {
   table-runs = λ rows n runs. (_, refl);
   image-build = λ s list nodes ports. (_, refl);
   image-lookup = λ s nodes ports a. (_, refl);
+  segments-build = λ list lent. (_, refl);
+  segments-lookup = λ s a. (_, refl);
+  segments-entries = λ packed plain entry. (_, refl);
 }
 
 pub defined-meets : DefinedMeets

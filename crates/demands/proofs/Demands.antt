@@ -1,12 +1,12 @@
 -- THE DEMANDS hold of any boundary that follows the definitions, and so of the library's own. Assumes nothing.
 use mathlib.Core.Path.{_≡_, refl, sym, ap, subst, _∙_}
 use mathlib.Core.Logic.{_⊎_, inl, inr, ⊎-elim}
-use mathlib.Core.Bool.{true, false, false≢true}
+use mathlib.Core.Bool.{true, false, cond, false≢true}
 use mathlib.Core.List.{List, [], _∷_}
 use Prim.Native.Nat.{ℕ, _*_, _%_, _^_, _≤_, _<_}
 use native.Mathlib.Omega.{arith}
-use lib.Dec.{eqb}
-use lib.ListN.{length, take}
+use lib.Dec.{eqb, leb}
+use lib.ListN.{length, getD, take, drop}
 use borrow.Author.Tests.{eqb-true, eqb-false, le-leb}
 use Rattle.promise.specs.Over.{Outcome, outcome, over}
 use Rattle.lists.proofs.Tests.{way}
@@ -50,8 +50,15 @@ use Rattle.runs_rules.proofs.Runs.{listing-unique, listing-exists}
 use Rattle.runs_rules.proofs.Maximal.{listing-is-maximal}
 use Rattle.runs_rules.proofs.Listing.{list-runs-done}
 use Rattle.table_runs.proofs.OfTable.{table-runs-done}
-use Rattle.maftehon.specs.Reply.{Imaged, repliedImage}
-use Rattle.demands.specs.Lamp.{Verdict, Lamp}
+use Rattle.segment_rules.specs.Build as segments
+use Rattle.segment_rules.specs.Build.{Stores, lookupStores}
+use Rattle.segment_rules.specs.Tables.{plainPointer}
+use Rattle.segment_rules.specs.Parts.{entriesOf}
+use Rattle.segment_rules.proofs.Walk.{reads-le as segment-reads-le}
+use Rattle.segment_rules.proofs.AfterBuild.{built-is-scan as segments-built-is-scan}
+use Rattle.maftehon.specs.Reply.{Imaged, repliedImage, Segmented, repliedSegments}
+use Rattle.demands.specs.Lamp.{Verdict, done, Lamp}
+use Rattle.demands.specs.SegmentChecks.{segmentReads, entriesStand}
 use Rattle.demands.specs.Boundary.{Boundary, place, result, readCount}
 use Rattle.demands.specs.Exports.{exports}
 use Rattle.demands.specs.History.{emptyTable, atEnd, heldBy}
@@ -61,6 +68,8 @@ use Rattle.demands.proofs.Shown.{On, Refuses, RefusesOnly, looking}
 use Rattle.demands.proofs.OfLists.{read-refuses, write-refuses, check-refuses, scan-refuses, list-runs-refuses}
 use Rattle.demands.proofs.OfTables.{table-check-refuses, lookup-refuses, announce-refuses, withdraw-refuses, build-refuses, save-refuses, table-runs-refuses}
 use Rattle.demands.proofs.OfImages.{building, image-build-refuses, image-lookup-refuses}
+use Rattle.demands.proofs.OfSegments.{segmenting, segments-build-refuses, words-on, entries-stand}
+use Rattle.demands.proofs.Entries.{entries-there, entries-built}
 use Rattle.demands.proofs.Follows.{Follows, exports-follow}
 use Rattle.demands.proofs.Histories.{held-is}
 
@@ -103,6 +112,20 @@ laid-image checks nodes ports x y e r =
           ((λ j. y .built .place ∷ k .0 j ∷ k .1 j ∷ []), k .2, k .3);
     })
 
+-- and of segment tables, which leaves four
+abbrev RefusesSegments : Verdict → Stores → Segmented → Type 0
+RefusesSegments checks lent x =
+    Lamp checks (x .reply .number) (place (x .reply)) ((x .reply .answer ≡ place (x .reply) ∷ 0 ∷ 0 ∷ 0 ∷ []) × (x .stores ≡ lent))
+
+laid-segments : (checks : Verdict) (lent : Stores) (x : Segmented) (y : segments.Left) → x ≡ repliedSegments y → On (segmenting lent) checks y
+    → RefusesSegments checks lent x
+laid-segments checks lent x y e r =
+    subst (RefusesSegments checks lent) (sym e)
+    (record {
+      exact = r .exact;
+      kept = λ wrong. let k = r .kept wrong in ((λ j. y .built .place ∷ k .0 j ∷ k .1 j ∷ k .2 j ∷ []), k .3);
+    })
+
 pub demand-1 : (B : Boundary) → Follows B → Demand1 B
 demand-1 B f = record {
   file-read = λ file list o m. laid-whole _ 0 list o _ (f .file-read file list o m) (read-refuses 32 file list);
@@ -129,6 +152,19 @@ demand-1 B f = record {
   image-reads = λ s nodes ports a x m.
       subst (λ (y : Reply). ReadsAndNumber 32 s nodes ports a (readCount y) (y .number)) (sym (f .image-lookup s nodes ports a x m))
       (image-reads-are 32 s nodes ports a);
+  segments-build = λ list lent x m. laid-segments _ lent x _ (f .segments-build list lent x m) (segments-build-refuses list lent);
+  segments-lookup = λ s a x bits m. laid-found _ x _ (f .segments-lookup s a x m) (words-on (λ _. 0) s a bits);
+  segments-reads = λ s a x m.
+      let is = f .segments-lookup s a x m in (
+        subst (λ (y : Reply). readCount y ≤ 4) (sym is) (segment-reads-le (s .first) (s .packed) (s .plain) (s .last) a),
+        λ bits. subst (λ (y : Reply). segmentReads s a (y .number) (readCount y)) (sym is) (words-on (λ reads. reads) s a bits .exact),
+      );
+  segments-entries = λ packed plain entry x m.
+      subst (demands.Refuses done (0 ∷ 0 ∷ [])) (sym (f .segments-entries packed plain entry x m))
+      (record { exact = (refl, refl); kept = λ wrong. absurd (wrong refl) });
+  segments-stand = λ packed plain entry x m.
+      subst (λ (y : Reply). entriesStand packed plain entry (result y) (readCount y)) (sym (f .segments-entries packed plain entry x m))
+      (entries-stand packed plain entry .exact);
 }
 
 -- 32 bits are whole bytes
@@ -205,6 +241,22 @@ module _ (B : Boundary) (f : Follows B) where
         f .image-lookup s (b .nodes) (b .ports) a x l
         ∙ ap (λ (y : Imaged). looked (lookupWords 32 s (y .nodes) (y .ports) a)) is
         ∙ ap looked (built-is-scan 32 s list nodes ports a (strided s (image-strided s list nodes ports done)) fits small done);
+    segments = λ list lent b a x fits small m z l.
+        let is = f .segments-build list lent b m in
+        let done = sym (ap (λ (y : Segmented). y .reply .number) is) ∙ z in
+        f .segments-lookup (b .stores) a x l
+        ∙ ap (λ (y : Segmented). looked (lookupStores (y .stores) a)) is
+        ∙ ap looked (segments-built-is-scan list lent a fits done small);
+    segment-entries = λ list lent b i x fits below m z l.
+        let is = f .segments-build list lent b m in
+        let done = sym (ap (λ (y : Segmented). y .reply .number) is) ∙ z in
+        let t = b .stores in
+        let entry = getD (t .first) i 0 in
+        ap (λ (y : Reply). take (readCount y) (drop (result y) (cond (leb plainPointer entry) (t .plain) (t .packed))))
+        (f .segments-entries (t .packed) (t .plain) entry x l)
+        ∙ entries-there (t .packed) (t .plain) entry
+        ∙ ap (λ (y : Segmented). entriesOf (y .stores .packed) (y .stores .plain) (getD (y .stores .first) i 0)) is
+        ∙ entries-built list lent i fits done below;
     read-written = λ list file lent w o fits room m z r.
         let is = f .file-write list file w m in
         f .file-read (take (result (w .answer)) (w .lent)) lent o r

@@ -13,6 +13,8 @@ use Rattle.table_rules.specs.Rows.{Mem}
 use Rattle.table_rows.specs.Words.{rowAt}
 use Rattle.demands.specs.Lamp.{Verdict, shows, done, whether, refuse}
 use Rattle.demands.specs.Checks.{routeChecks, eachRoute, listChecks, eachInFile, fileChecks, rowChecks, nodeChecks}
+use Rattle.segment_rules.specs.Build.{Stores}
+use Rattle.demands.specs.SegmentChecks.{portChecks, entryChecks, wordChecks}
 use Rattle.demands.specs.Demands.{EachCall}
 use Rattle.demands.specs.Unused.{unused}
 
@@ -58,6 +60,18 @@ module _ (Such : Verdict → Type 0) (shown : (number place : ℕ) → eqb numbe
   of-nodes s nodes ports a (suc k) i =
       check _ _ _ _ refl (check _ _ _ _ refl (either _ _ _ (check _ _ _ _ refl (last-check _ _ refl)) (of-nodes s nodes ports a k _)))
 
+  module _ (seen : ℕ → ℕ) (s : Stores) (a : ℕ) where
+    of-port : (reads port : ℕ) → Such (portChecks seen s a reads port)
+    of-port reads port = check _ _ _ _ refl (shown 0 (seen reads) refl)
+
+    of-entry : (reads entry : ℕ) → Such (entryChecks seen s a reads entry)
+    of-entry reads entry = either _ _ _ (of-port reads entry) (check _ _ _ _ refl (of-port (reads + 1) _))
+
+    of-words : Such (wordChecks seen s a)
+    of-words =
+        check _ _ _ _ refl
+        (either _ _ _ (of-port 1 _) (either _ _ _ (check _ _ _ _ refl (check _ _ _ _ refl (of-entry 3 _))) (check _ _ _ _ refl (of-entry 2 _))))
+
   pub each-call : EachCall Such
   each-call = record {
     file-read = λ file list. of-file 32 file _ (λ n. last-check _ _ refl);
@@ -73,4 +87,9 @@ module _ (Such : Verdict → Type 0) (shown : (number place : ℕ) → eqb numbe
     table-runs = λ rows n runs. check _ _ _ _ refl (last-check _ _ refl);
     image-build = λ s list nodes ports. check _ _ _ _ refl (of-list 32 list _ (last-check _ _ refl));
     image-lookup = λ s nodes ports a. check _ _ _ _ refl (of-nodes s nodes ports a (32 / s) 1);
+    segments-build = λ list lent.
+        of-list 32 list _ (check _ _ _ _ refl (check _ _ _ _ refl (check _ _ _ _ refl (last-check _ _ refl))));
+    segments-lookup = λ s a. of-words (λ _. 0) s a;
+    segments-reads = λ s a. of-words (λ reads. reads) s a;
+    segments-entries = accepts;
   }

@@ -4,6 +4,7 @@ use mathlib.Core.Path.{_≡_, sym, ap, ap₂, subst, _∙_}
 use mathlib.Core.Logic.{_⊎_, inl, inr}
 use mathlib.Core.List.{List}
 use Prim.Native.Nat.{ℕ}
+use lib.ListN.{length}
 use Rattle.promise.specs.Over.{Outcome}
 use Rattle.refusals.specs.Reply.{Reply, placed, counted, looked, replied}
 use Rattle.routes.specs.Routes.{route}
@@ -20,7 +21,9 @@ use Rattle.image_rules.specs.Lookup.{lookupWords}
 use Rattle.image_build.specs.Build.{buildImage}
 use Rattle.runs_rules.specs.Listing.{listRuns}
 use Rattle.table_runs.specs.TableRuns.{tableRuns}
-use Rattle.maftehon.specs.Reply.{Imaged, repliedImage}
+use Rattle.segment_rules.specs.Parts.{partOf}
+use Rattle.segment_rules.specs.Build.{Stores, buildSegments, lookupStores}
+use Rattle.maftehon.specs.Reply.{Imaged, repliedImage, Segmented, repliedSegments, located}
 use Rattle.demands.specs.Boundary.{Boundary}
 use Rattle.demands.specs.Exports.{LookedBy, LookedAt, exports}
 
@@ -39,6 +42,9 @@ pub record Follows (B : Boundary) : Type 0 where
   pub table-runs : (rows : List ℕ) (n : ℕ) (runs : List ℕ) (o : Outcome Reply) → B .table-runs rows n runs o → o ≡ replied (tableRuns 32 (capacity rows) (rowAt rows) n runs)
   pub image-build : (s : ℕ) (list nodes ports : List ℕ) (x : Imaged) → B .image-build s list nodes ports x → x ≡ repliedImage (buildImage 32 s list nodes ports)
   pub image-lookup : (s : ℕ) (nodes ports : List ℕ) (a : ℕ) (x : Reply) → B .image-lookup s nodes ports a x → x ≡ looked (lookupWords 32 s nodes ports a)
+  pub segments-build : (list : List ℕ) (lent : Stores) (x : Segmented) → B .segments-build list lent x → x ≡ repliedSegments (buildSegments list lent)
+  pub segments-lookup : (s : Stores) (a : ℕ) (x : Reply) → B .segments-lookup s a x → x ≡ looked (lookupStores s a)
+  pub segments-entries : (packed plain : List ℕ) (entry : ℕ) (x : Reply) → B .segments-entries packed plain entry x → x ≡ located (partOf (length packed) (length plain) entry)
 
 -- a lookup at a constant stride
 at-constant : (k s : ℕ) (nodes ports : List ℕ) (a : ℕ) (x : Reply) → s ≡ k
@@ -70,4 +76,7 @@ exports-follow = record {
   table-runs = λ rows n runs o m. sym (m .4) ∙ m .0 .meets ∙ (λ j. replied (tableRuns 32 (capacity (m .1 j)) (rowAt (m .1 j)) (m .2 j) (m .3 j)));
   image-build = λ s list nodes ports x m. sym (m .5) ∙ m .0 .meets ∙ (λ j. repliedImage (buildImage 32 (m .1 j) (m .2 j) (m .3 j) (m .4 j)));
   image-lookup = looked-up-follows;
+  segments-build = λ list lent x m. sym (m .3) ∙ m .0 .meets ∙ (λ j. repliedSegments (buildSegments (m .1 j) (m .2 j)));
+  segments-lookup = λ s a x m. sym (m .3) ∙ m .0 .meets ∙ (λ j. looked (lookupStores (m .1 j) (m .2 j)));
+  segments-entries = λ packed plain entry x m. sym (m .4) ∙ m .0 .meets ∙ (λ j. located (partOf (length (m .1 j)) (length (m .2 j)) (m .3 j)));
 }

@@ -25,16 +25,20 @@ use Rattle.table_update.specs.Calls.{buildInto}
 use Rattle.table_update.specs.History.{announcing, withdrawing, Table}
 use Rattle.image_rules.specs.Image.{passed}
 use Rattle.image_build.specs.Build.{Left, listRoutes, buildImage}
-use Rattle.maftehon.specs.Reply.{Imaged}
+use Rattle.segment_rules.specs.Theorems.{readsOf}
+use Rattle.segment_rules.specs.Build.{Stores, buildSegments}
+use Rattle.maftehon.specs.Reply.{Imaged, Segmented}
 use Rattle.demands.specs.Boundary.{Boundary, result, readCount, Ends}
 use Rattle.demands.specs.History.{Step, May, left, emptyTable, heldBy}
 use Rattle.demands.specs.Demands.{Demands}
 use Rattle.demands.specs.Checks.{announceChecks, withdrawChecks, NotHeld}
-use Rattle.demands.specs.Impostors.{IgnoresAnnouncements, IgnoresWithdrawals, FixedPort, FixedPortOfImage, ImpostorsStopped}
+use Rattle.demands.specs.Impostors.{IgnoresAnnouncements, IgnoresWithdrawals, FixedPort, FixedPortOfImage, FixedPortOfSegments, ImpostorsStopped}
 use Rattle.demands.proofs.Decided.{demand-1-decides}
 use Rattle.demands.proofs.OfTables.{build-refuses}
 use Rattle.demands.proofs.OfImages.{image-build-refuses}
-use Rattle.demands.proofs.Accepted.{wholeSpace, no-routes-built, whole-space-built, no-routes-imaged, whole-space-imaged}
+use Rattle.demands.proofs.OfSegments.{segments-build-refuses}
+use Rattle.demands.proofs.Roomy.{zeroStores, zeros-roomy}
+use Rattle.demands.proofs.Accepted.{wholeSpace, no-routes-built, whole-space-built, no-routes-imaged, whole-space-imaged, no-routes-segmented, whole-space-segmented}
 
 -- the whole space to a port
 abbrev whole : ℕ → Route
@@ -220,6 +224,27 @@ module _ (B : Boundary) (ends : Ends B) (d : Demands B) where
     fixed-is-image-scan fixed =
         sym (fixed .1 1 (imaged .nodes) (imaged .ports) 0 (seen .0) (seen .1) (ap (λ (x : Reply). x .number) seen-scan)) ∙ ap result seen-scan
 
+  module _ (list : List ℕ) (lent : Stores) (words : Words 32 list) (fine : buildSegments list lent .built .number ≡ 0) where
+    abbrev segmented : Segmented
+    segmented = ends .segments-build list lent .0
+
+    segmented-done : segmented .reply .number ≡ 0
+    segmented-done =
+        demand-1-decides .segments-build list lent _ _ _ _
+        (d .one .segments-build list lent segmented (ends .segments-build list lent .1) .exact)
+        (segments-build-refuses list lent .exact) .0
+        ∙ fine
+
+    abbrev got : (x : Reply) × B .segments-lookup (segmented .stores) 0 x
+    got = ends .segments-lookup (segmented .stores) 0
+
+    got-scan : got .0 ≡ looked (answered (scanOf 32 (routeAt list) (routeCount list) 0) (readsOf (routeAt list) (routeCount list) 0))
+    got-scan = d .two .segments list lent segmented 0 (got .0) words (omega arith) (ends .segments-build list lent .1) segmented-done (got .1)
+
+    fixed-is-segment-scan : (fixed : FixedPortOfSegments B) → fixed .0 ≡ scanOf 32 (routeAt list) (routeCount list) 0
+    fixed-is-segment-scan fixed =
+        sym (fixed .1 (segmented .stores) 0 (got .0) (got .1) (ap (λ (x : Reply). x .number) got-scan)) ∙ ap result got-scan
+
 no-words : Words 32 []
 no-words i = omega arith
 
@@ -263,6 +288,14 @@ impostors-stopped = record {
         fixed-is-image-scan B ends d wholeSpace (replicate 2 0) (replicate 2 0) whole-space-words (ap (λ (x : Left). x .built .number) whole-space-imaged) fixed,
         whole-space-scanned,
       );
+  fixed-port-of-segments = λ B ends d fixed.
+      omega (
+        arith,
+        fixed-is-segment-scan B ends d [] zeroStores no-words (no-routes-segmented zeroStores zeros-roomy) fixed,
+        no-routes-scanned,
+        fixed-is-segment-scan B ends d wholeSpace zeroStores whole-space-words (whole-space-segmented zeroStores zeros-roomy) fixed,
+        whole-space-scanned,
+      );
   untouched-by-announcing = λ B ends d untouched. later-announced B ends d (λ rows n q o some. untouched rows n q o);
   untouched-by-withdrawing = λ B ends d untouched. later-withdrawn B ends d (λ rows n value len o some. untouched rows n value len o);
   first-announcement-only = later-announced;
@@ -272,4 +305,7 @@ impostors-stopped = record {
   invented-nodes = λ B ends d x.
       x .invented
       (ap readCount (d .two .image (x .stride) (x .list) (x .nodes) (x .ports) (x .built) (x .address) (x .reply) (x .words) (x .fits) (x .builds) (x .done) (x .answers)));
+  invented-reads = λ B ends d x.
+      x .invented
+      (ap readCount (d .two .segments (x .list) (x .lent) (x .built) (x .address) (x .reply) (x .words) (x .fits) (x .builds) (x .done) (x .answers)));
 }

@@ -5,6 +5,8 @@ pub mod Listed
 pub mod OfLists
 pub mod OfTables
 pub mod OfImages
+pub mod OfSegments
+pub mod Entries
 pub mod EachCall
 pub mod Decided
 pub mod Follows
@@ -12,6 +14,7 @@ pub mod Histories
 pub mod Demands
 pub mod Defined
 pub mod Images
+pub mod Roomy
 pub mod Accepted
 pub mod Impostors
 pub mod Steps

@@ -81,8 +81,14 @@ module _ (v : View) where
         → On v (refuse m p Wrong rest) (answer (unless b m after))
     on-unless answer after next shown = on-unless-then answer after (λ _. next) shown
 
-  -- one of two ways: the test is false where P is
-  pub on-whether : (b : Bool) (P : Type 0) (then else : Verdict) (answer : Bool → v .Seen) → (b ≡ true → P) → (b ≡ false → P → ⊥)
-      → On v then (answer true) → On v else (answer false) → On v (whether P then else) (answer b)
-  on-whether true P then else answer is isnt x y = record { exact = inl (is refl, x .exact); kept = x .kept }
-  on-whether false P then else answer is isnt x y = record { exact = inr (isnt refl, y .exact); kept = y .kept }
+  module _ (b : Bool) (P : Type 0) (then else : Verdict) (answer : Bool → v .Seen) (is : b ≡ true → P) (isnt : b ≡ false → P → ⊥) where
+    -- one of two ways: the test is true where P is; what follows may use how it went
+    pub on-whether-then : (b ≡ true → On v then (answer true)) → (b ≡ false → On v else (answer false)) → On v (whether P then else) (answer b)
+    on-whether-then x y = go b refl
+      where
+        go : (c : Bool) → c ≡ b → On v (whether P then else) (answer c)
+        go true e = let on = x (sym e) in record { exact = inl (is (sym e), on .exact); kept = on .kept }
+        go false e = let on = y (sym e) in record { exact = inr (isnt (sym e), on .exact); kept = on .kept }
+
+    pub on-whether : On v then (answer true) → On v else (answer false) → On v (whether P then else) (answer b)
+    on-whether x y = on-whether-then (λ _. x) (λ _. y)

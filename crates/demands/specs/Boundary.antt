@@ -6,7 +6,8 @@ use lib.ListN.{getD}
 use Rattle.promise.specs.Over.{Outcome}
 use Rattle.refusals.specs.Reply.{Reply}
 use Rattle.routes.specs.declared.Route.{Route}
-use Rattle.maftehon.specs.Reply.{Imaged}
+use Rattle.segment_rules.specs.Build.{Stores}
+use Rattle.maftehon.specs.Reply.{Imaged, Segmented}
 
 -- an outcome is the number returned, the words of `answer`, and what is left in the memory lent to be written
 pub record Boundary : Type 1 where
@@ -24,8 +25,11 @@ pub record Boundary : Type 1 where
   pub table-runs : (rows : List ℕ) (n : ℕ) (runs : List ℕ) → Outcome Reply → Type 0
   pub image-build : (stride : ℕ) (list nodes ports : List ℕ) → Imaged → Type 0
   pub image-lookup : (stride : ℕ) (nodes ports : List ℕ) (address : ℕ) → Reply → Type 0
+  pub segments-build : (list : List ℕ) (lent : Stores) → Segmented → Type 0
+  pub segments-lookup : (stores : Stores) (address : ℕ) → Reply → Type 0
+  pub segments-entries : (packed plain : List ℕ) (entry : ℕ) → Reply → Type 0
 
--- the words of `answer`: the place; then the count, n or port; then the rows or nodes read
+-- the words of `answer`: the place; then the count, n, port or offset; then the rows, nodes or words read, or how many entries there are
 abbrev pub place : Reply → ℕ
 place x = getD (x .answer) 0 0
 
@@ -51,3 +55,6 @@ pub record Ends (B : Boundary) : Type 0 where
   pub table-runs : (rows : List ℕ) (n : ℕ) (runs : List ℕ) → (o : Outcome Reply) × B .table-runs rows n runs o
   pub image-build : (s : ℕ) (list nodes ports : List ℕ) → (x : Imaged) × B .image-build s list nodes ports x
   pub image-lookup : (s : ℕ) (nodes ports : List ℕ) (a : ℕ) → (x : Reply) × B .image-lookup s nodes ports a x
+  pub segments-build : (list : List ℕ) (lent : Stores) → (x : Segmented) × B .segments-build list lent x
+  pub segments-lookup : (s : Stores) (a : ℕ) → (x : Reply) × B .segments-lookup s a x
+  pub segments-entries : (packed plain : List ℕ) (entry : ℕ) → (x : Reply) × B .segments-entries packed plain entry x

@@ -1,6 +1,7 @@
 -- Defines the boundary that the definitions make: each call has the one outcome that they say. RULES, "Promises". It ends and meets the
 -- demands, so that what is said of such boundaries is said of something. Assumes nothing.
 use mathlib.Core.Path.{_≡_}
+use lib.ListN.{length}
 use Rattle.refusals.specs.Reply.{placed, counted, looked, replied}
 use Rattle.routes.specs.Check.{listCheck}
 use Rattle.routes.specs.Scan.{listScan}
@@ -14,7 +15,9 @@ use Rattle.image_rules.specs.Lookup.{lookupWords}
 use Rattle.image_build.specs.Build.{buildImage}
 use Rattle.runs_rules.specs.Listing.{listRuns}
 use Rattle.table_runs.specs.TableRuns.{tableRuns}
-use Rattle.maftehon.specs.Reply.{repliedImage}
+use Rattle.segment_rules.specs.Build.{buildSegments, lookupStores}
+use Rattle.segment_rules.specs.Parts.{partOf}
+use Rattle.maftehon.specs.Reply.{repliedImage, repliedSegments, located}
 use Rattle.demands.specs.Boundary.{Boundary, Ends}
 use Rattle.demands.specs.Demands.{Demands}
 
@@ -34,6 +37,9 @@ defined = record {
   table-runs = λ rows n runs o. o ≡ replied (tableRuns 32 (capacity rows) (rowAt rows) n runs);
   image-build = λ s list nodes ports x. x ≡ repliedImage (buildImage 32 s list nodes ports);
   image-lookup = λ s nodes ports a x. x ≡ looked (lookupWords 32 s nodes ports a);
+  segments-build = λ list lent x. x ≡ repliedSegments (buildSegments list lent);
+  segments-lookup = λ s a x. x ≡ looked (lookupStores s a);
+  segments-entries = λ packed plain entry x. x ≡ located (partOf (length packed) (length plain) entry);
 }
 
 -- the impostors are stopped by something that can be met

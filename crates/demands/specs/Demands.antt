@@ -1,9 +1,11 @@
 -- States the three demands, of any boundary at 32 bits. Proofs are in proofs/. Assumes nothing.
 use mathlib.Core.Path.{_≡_}
 use mathlib.Core.Logic.{_⊎_}
+use mathlib.Core.Bool.{cond}
 use mathlib.Core.List.{List, [], _∷_}
 use Prim.Native.Nat.{ℕ, _+_, _*_, _/_, _^_, _≤_, _<_}
-use lib.ListN.{length, take}
+use lib.Dec.{leb}
+use lib.ListN.{length, getD, take, drop}
 use Rattle.promise.specs.Over.{Outcome, outcome, over}
 use Rattle.bits.specs.Bits.{bits}
 use Rattle.trie.specs.Scan.{scan}
@@ -25,9 +27,13 @@ use Rattle.image_rules.specs.NodesRead.{ReadsAndNumber}
 use Rattle.image_build.specs.Build.{listRoutes}
 use Rattle.runs_rules.specs.Runs.{Run, runWords}
 use Rattle.runs_rules.specs.Maximal.{NamesMaximal}
-use Rattle.maftehon.specs.Reply.{Imaged}
+use Rattle.segment_rules.specs.Tables.{plainPointer}
+use Rattle.segment_rules.specs.Theorems.{readsOf, segmentPart}
+use Rattle.segment_rules.specs.Build.{Stores}
+use Rattle.maftehon.specs.Reply.{Imaged, Segmented}
 use Rattle.demands.specs.Lamp.{Verdict, done, Lamp, Decides}
 use Rattle.demands.specs.Checks.{listChecks, readChecks, writeChecks, orderChecks, announceChecks, withdrawChecks, buildChecks, saveChecks, lookupChecks, imageChecks, imageLookupChecks, listRunsChecks, tableRunsChecks}
+use Rattle.demands.specs.SegmentChecks.{segmentChecks, SixteenBits, segmentLookupChecks, segmentReads, entriesStand}
 use Rattle.demands.specs.Boundary.{Boundary, place, result, readCount}
 use Rattle.demands.specs.History.{Step, Happened, emptyTable, atEnd, heldBy}
 
@@ -85,6 +91,23 @@ pub record Demand1 (B : Boundary) : Type 0 where
   pub image-reads :
       (s : ℕ) (nodes ports : List ℕ) (a : ℕ) (x : Reply) → B .image-lookup s nodes ports a x
       → ReadsAndNumber 32 s nodes ports a (readCount x) (x .number)
+  pub segments-build :
+      (list : List ℕ) (lent : Stores) (x : Segmented) → B .segments-build list lent x
+      → Lamp (segmentChecks list lent) (x .reply .number) (place (x .reply))
+      ((x .reply .answer ≡ place (x .reply) ∷ 0 ∷ 0 ∷ 0 ∷ []) × (x .stores ≡ lent))
+  pub segments-lookup :
+      (s : Stores) (a : ℕ) (x : Reply) → SixteenBits s → B .segments-lookup s a x
+      → Refuses (segmentLookupChecks s a) (0 ∷ readCount x ∷ []) x
+  -- "in at most four reads, which it counts"
+  pub segments-reads :
+      (s : Stores) (a : ℕ) (x : Reply) → B .segments-lookup s a x
+      → (readCount x ≤ 4) × (SixteenBits s → segmentReads s a (x .number) (readCount x))
+  -- the debug page's call refuses nothing: "none if the first-table entry given names no segment in its store"
+  pub segments-entries :
+      (packed plain : List ℕ) (entry : ℕ) (x : Reply) → B .segments-entries packed plain entry x → Refuses done (0 ∷ 0 ∷ []) x
+  pub segments-stand :
+      (packed plain : List ℕ) (entry : ℕ) (x : Reply) → B .segments-entries packed plain entry x
+      → entriesStand packed plain entry (result x) (readCount x)
 
 -- the checks of every call are such
 pub record EachCall (Such : Verdict → Type 0) : Type 0 where
@@ -101,14 +124,23 @@ pub record EachCall (Such : Verdict → Type 0) : Type 0 where
   pub table-runs : (rows : List ℕ) (n : ℕ) (runs : List ℕ) → Such (tableRunsChecks 32 rows n runs)
   pub image-build : (s : ℕ) (list nodes ports : List ℕ) → Such (imageChecks 32 s list nodes ports)
   pub image-lookup : (s : ℕ) (nodes ports : List ℕ) (a : ℕ) → Such (imageLookupChecks 32 s nodes ports a)
+  pub segments-build : (list : List ℕ) (lent : Stores) → Such (segmentChecks list lent)
+  pub segments-lookup : (s : Stores) (a : ℕ) → Such (segmentLookupChecks s a)
+  pub segments-reads : (s : Stores) (a : ℕ) → Such (segmentReads s a)
+  pub segments-entries : Such done
 
 -- "exactly in the listed case": the checks of a call leave no choice, so that no other number or place would do
 abbrev pub Demand1Decides : Type 0
 Demand1Decides = EachCall Decides
 
+-- nor is there a choice where the entries of a segment stand
+abbrev pub EntriesDecided : Type 0
+EntriesDecided = (packed plain : List ℕ) (entry : ℕ) → Decides (entriesStand packed plain entry)
+
 -- DEMAND 2. "Both tries, built from a valid list, give for each of the 2^32 addresses the port that a plain scan gives (longest match,
 -- RFC 4632; 0 if none)." A build that returned 0 had a valid list, by demand 1; the lookup is handed what the build left. Stronger:
--- what else the memory lent holds does not matter, and the nodes read are told too.
+-- what else the memory lent holds does not matter, and the nodes read are told too. Of segment tables: "Lookup equals the plain scan, in
+-- at most four reads, which it counts", and "a call hands back the entries of a segment".
 -- "Reading a written file returns the same routes; writing what was read returns the same bytes" "for files whose spare bits are zero;
 -- others come back with them cleared." All of them, and their number.
 pub record Demand2 (B : Boundary) : Type 0 where
@@ -123,6 +155,18 @@ pub record Demand2 (B : Boundary) : Type 0 where
       (s : ℕ) (list nodes ports : List ℕ) (b : Imaged) (a : ℕ) (x : Reply) → Words 32 list → a < 2 ^ 32
       → B .image-build s list nodes ports b → b .reply .number ≡ 0 → B .image-lookup s (b .nodes) (b .ports) a x
       → x ≡ looked (found (scanOf 32 (routeAt list) (routeCount list) a) (passed (listRoutes 32 list) s (32 / s) [] (bits 32 a) + 1))
+  pub segments :
+      (list : List ℕ) (lent : Stores) (b : Segmented) (a : ℕ) (x : Reply) → Words 32 list → a < 2 ^ 32
+      → B .segments-build list lent b → b .reply .number ≡ 0 → B .segments-lookup (b .stores) a x
+      → x ≡ looked (found (scanOf 32 (routeAt list) (routeCount list) a) (readsOf (routeAt list) (routeCount list) a))
+  -- handed the entry of the first sixteen bits i; "out of the plain store or the packed one"
+  pub segment-entries :
+      (list : List ℕ) (lent : Stores) (b : Segmented) (i : ℕ) (x : Reply) → Words 32 list → i < 2 ^ 16
+      → B .segments-build list lent b → b .reply .number ≡ 0
+      → let entry : ℕ = getD (b .stores .first) i 0 in
+      B .segments-entries (b .stores .packed) (b .stores .plain) entry x
+      → take (readCount x) (drop (result x) (cond (leb plainPointer entry) (b .stores .plain) (b .stores .packed)))
+      ≡ segmentPart (routeAt list) (routeCount list) i
   pub read-written :
       (list file lent : List ℕ) (written o : Outcome Reply) → Words 32 list → length list ≤ length lent
       → B .file-write list file written → written .answer .number ≡ 0

@@ -10,7 +10,8 @@ use Rattle.promise.specs.Made.{Made}
 use Rattle.promise.specs.Over.{Outcome, outcome}
 use Rattle.refusals.specs.Reply.{Reply, reply}
 use Rattle.routes.specs.declared.Route.{Route}
-use Rattle.maftehon.specs.Reply.{Imaged, imaged}
+use Rattle.segment_rules.specs.Build.{stores}
+use Rattle.maftehon.specs.Reply.{Imaged, imaged, segmented}
 use Rattle.demands.specs.Boundary.{Boundary}
 use Rattle.maftehon.proofs.files.mft_file_read.Kinds as file-read-kinds
 use Rattle.maftehon.proofs.files.mft_file_read.Reads as file-read
@@ -44,6 +45,12 @@ use Rattle.maftehon.proofs.images.mft_image_lookup_1.Kinds as image-lookup-1-ki
 use Rattle.maftehon.proofs.images.mft_image_lookup_1.Reads as image-lookup-1
 use Rattle.maftehon.proofs.images.mft_image_lookup_2.Reads as image-lookup-2
 use Rattle.maftehon.proofs.images.mft_image_lookup_4.Reads as image-lookup-4
+use Rattle.maftehon.proofs.segments.mft_segments_build.Kinds as segments-build-kinds
+use Rattle.maftehon.proofs.segments.mft_segments_build.Reads as segments-build
+use Rattle.maftehon.proofs.segments.mft_segments_lookup.Kinds as segments-lookup-kinds
+use Rattle.maftehon.proofs.segments.mft_segments_lookup.Reads as segments-lookup
+use Rattle.maftehon.proofs.segments.mft_segments_entries.Kinds as segments-entries-kinds
+use Rattle.maftehon.proofs.segments.mft_segments_entries.Reads as segments-entries
 
 -- a lookup at a constant stride, by the contract of an export that has no other argument
 abbrev pub LookedAt : Out 3 image-lookup-1-kinds.ps image-lookup-1-kinds.r → (nodes ports : List ℕ) → ℕ → Reply → Type 0
@@ -118,4 +125,19 @@ exports = record {
       LookedBy stride nodes ports address x
       ⊎ (((stride ≡ 1) × LookedAt image-lookup-1.Post nodes ports address x)
       ⊎ (((stride ≡ 2) × LookedAt image-lookup-2.Post nodes ports address x) ⊎ ((stride ≡ 4) × LookedAt image-lookup-4.Post nodes ports address x)));
+  segments-build = λ list lent x.
+      (c : Made 6 segments-build-kinds.ps segments-build-kinds.r segments-build.Post)
+      × (now (c .args .0) ≡ list)
+      × (stores (now (c .args .1 .0)) (now (c .args .1 .1 .0)) (now (c .args .1 .1 .1 .0)) (now (c .args .1 .1 .1 .1 .0)) ≡ lent)
+      × (segmented (reply (c .result) (now (c .exit .1 .1 .1 .1 .1 .0)))
+      (stores (now (c .exit .1 .0)) (now (c .exit .1 .1 .0)) (now (c .exit .1 .1 .1 .0)) (now (c .exit .1 .1 .1 .1 .0)))
+      ≡ x);
+  segments-lookup = λ s address x.
+      (c : Made 5 segments-lookup-kinds.ps segments-lookup-kinds.r segments-lookup.Post)
+      × (stores (now (c .args .0)) (now (c .args .1 .0)) (now (c .args .1 .1 .0)) (now (c .args .1 .1 .1 .0)) ≡ s) × (c .args .1 .1 .1 .1 .0 ≡ address)
+      × (reply (c .result) (now (c .exit .1 .1 .1 .1 .1 .0)) ≡ x);
+  segments-entries = λ packed plain entry x.
+      (c : Made 3 segments-entries-kinds.ps segments-entries-kinds.r segments-entries.Post)
+      × (now (c .args .0) ≡ packed) × (now (c .args .1 .0) ≡ plain) × (c .args .1 .1 .0 ≡ entry)
+      × (reply (c .result) (now (c .exit .1 .1 .1 .0)) ≡ x);
 }

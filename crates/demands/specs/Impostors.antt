@@ -7,12 +7,14 @@ use Rattle.promise.specs.Over.{Outcome}
 use Rattle.bits.specs.Bits.{bits}
 use Rattle.trie.specs.Trie.{Trie, IsTrie, reads}
 use Rattle.refusals.specs.Reply.{Reply}
-use Rattle.routes.specs.Routes.{Words}
+use Rattle.routes.specs.Routes.{routeAt, routeCount, Words}
 use Rattle.routes.specs.declared.Route.{Route}
 use Rattle.table_update.specs.History.{Table}
 use Rattle.image_rules.specs.Image.{passed}
 use Rattle.image_build.specs.Build.{listRoutes}
-use Rattle.maftehon.specs.Reply.{Imaged}
+use Rattle.segment_rules.specs.Theorems.{readsOf}
+use Rattle.segment_rules.specs.Build.{Stores}
+use Rattle.maftehon.specs.Reply.{Imaged, Segmented}
 use Rattle.demands.specs.Boundary.{Boundary, result, readCount, Ends}
 use Rattle.demands.specs.History.{Step, Happened, emptyTable, atEnd, heldBy}
 use Rattle.demands.specs.Demands.{Demand1, Demands}
@@ -40,6 +42,9 @@ abbrev pub FixedPortOfImage : Boundary → Type 0
 FixedPortOfImage B =
     (port : ℕ)
     × ((s : ℕ) (nodes ports : List ℕ) (a : ℕ) (x : Reply) → B .image-lookup s nodes ports a x → x .number ≡ 0 → result x ≡ port)
+
+abbrev pub FixedPortOfSegments : Boundary → Type 0
+FixedPortOfSegments B = (port : ℕ) × ((s : Stores) (a : ℕ) (x : Reply) → B .segments-lookup s a x → x .number ≡ 0 → result x ≡ port)
 
 -- "one takes the first announcement and ignores the later calls": what it accepts leaves the rows as they were, whatever it says of n
 abbrev pub IgnoresAnnouncements : Boundary → Type 0
@@ -92,18 +97,35 @@ pub record InventsNodes (B : Boundary) : Type 0 where
   pub answers : B .image-lookup stride (built .nodes) (built .ports) address reply
   pub invented : readCount reply ≡ passed (listRoutes 32 list) stride (32 / stride) [] (bits 32 address) + 1 → ⊥
 
+-- or the words read in segment tables: a number that is not one for the first table, two for a packed segment or one for a plain one, and
+-- one for a last block
+pub record InventsReads (B : Boundary) : Type 0 where
+  pub list : List ℕ
+  pub words : Words 32 list
+  pub lent : Stores
+  pub built : Segmented
+  pub builds : B .segments-build list lent built
+  pub done : built .reply .number ≡ 0
+  pub address : ℕ
+  pub fits : address < 2 ^ 32
+  pub reply : Reply
+  pub answers : B .segments-lookup (built .stores) address reply
+  pub invented : readCount reply ≡ readsOf (routeAt list) (routeCount list) address → ⊥
+
 pub record ImpostorsStopped : Type 1 where
   pub refuses-announcements : Stopped RefusesAnnouncements
   pub refuses-withdrawals : Stopped RefusesWithdrawals
   pub refuses-lookups : Stopped RefusesLookups
   pub fixed-port : Stopped FixedPort
   pub fixed-port-of-image : Stopped FixedPortOfImage
+  pub fixed-port-of-segments : Stopped FixedPortOfSegments
   pub untouched-by-announcing : Stopped UntouchedByAnnouncing
   pub untouched-by-withdrawing : Stopped UntouchedByWithdrawing
   pub first-announcement-only : Stopped IgnoresAnnouncements
   pub later-withdrawals-ignored : Stopped IgnoresWithdrawals
   pub invented-rows : Stopped InventsRows
   pub invented-nodes : Stopped InventsNodes
+  pub invented-reads : Stopped InventsReads
 
 -- "the table's exactly when stops it": by demand 1, each of the other calls is handed something that it may not refuse
 pub record EachAccepts (B : Boundary) : Type 0 where
@@ -123,6 +145,10 @@ pub record EachAccepts (B : Boundary) : Type 0 where
       × ((x : Imaged) → B .image-build s list nodes ports x → x .reply .number ≡ 0)
   pub image-lookup :
       (s : ℕ) × (nodes : List ℕ) × (ports : List ℕ) × (a : ℕ) × ((x : Reply) → B .image-lookup s nodes ports a x → x .number ≡ 0)
+  pub segments-build : (list : List ℕ) × (lent : Stores) × ((x : Segmented) → B .segments-build list lent x → x .reply .number ≡ 0)
+  pub segments-lookup : (s : Stores) × (a : ℕ) × ((x : Reply) → B .segments-lookup s a x → x .number ≡ 0)
+  pub segments-entries :
+      (packed : List ℕ) × (plain : List ℕ) × (entry : ℕ) × ((x : Reply) → B .segments-entries packed plain entry x → x .number ≡ 0)
 
 abbrev pub NoCallRefusesAll : Type 1
 NoCallRefusesAll = (B : Boundary) → Demand1 B → EachAccepts B

@@ -1,6 +1,7 @@
 -- What the whole base is there for: the demands of any C boundary, and the library's own.
 pub mod Lamp
 pub mod Checks
+pub mod SegmentChecks
 pub mod Boundary
 pub mod Exports
 pub mod History

@@ -5,8 +5,10 @@ use Prim.Native.Nat.{ℕ, _^_, _<_}
 use Rattle.promise.specs.Over.{Outcome}
 use Rattle.refusals.specs.Reply.{Reply}
 use Rattle.routes.specs.declared.Route.{Route}
-use Rattle.maftehon.specs.Reply.{Imaged}
+use Rattle.segment_rules.specs.Build.{Stores}
+use Rattle.maftehon.specs.Reply.{Imaged, Segmented}
 use Rattle.demands.specs.Boundary.{Boundary}
+use Rattle.demands.specs.SegmentChecks.{SixteenBits}
 use Rattle.demands.specs.Demands.{Demand1}
 
 -- "its number stays unused"
@@ -37,6 +39,11 @@ pub record NeverAnswers (B : Boundary) (number : ℕ) : Type 0 where
       (s : ℕ) (list nodes ports : List ℕ) (x : Imaged) → B .image-build s list nodes ports x → x .reply .number ≡ number → ⊥
   pub image-lookup :
       (s : ℕ) (nodes ports : List ℕ) (a : ℕ) (x : Reply) → B .image-lookup s nodes ports a x → x .number ≡ number → ⊥
+  pub segments-build : (list : List ℕ) (lent : Stores) (x : Segmented) → B .segments-build list lent x → x .reply .number ≡ number → ⊥
+  pub segments-lookup :
+      (s : Stores) (a : ℕ) (x : Reply) → SixteenBits s → B .segments-lookup s a x → x .number ≡ number → ⊥
+  pub segments-entries :
+      (packed plain : List ℕ) (entry : ℕ) (x : Reply) → B .segments-entries packed plain entry x → x .number ≡ number → ⊥
 
 -- 13 is given by none of the calls, the two listings among them
 abbrev pub NoThirteen : Type 1

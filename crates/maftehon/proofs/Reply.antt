@@ -6,7 +6,9 @@ use Rattle.promise.specs.Over.{Outcome, outcome}
 use Rattle.refusals.specs.declared.Answer.{Answer}
 use Rattle.image_build.specs.Build.{Left, left}
 use Rattle.image_build.specs.declared.Built.{Built}
-use Rattle.maftehon.specs.Reply.{built, imaged, repliedImage}
+use Rattle.segment_rules.specs.Build.{Stores, Left as SegmentsLeft, left as segmentsLeft}
+use Rattle.segment_rules.specs.declared.Built.{Built as SegmentsBuilt}
+use Rattle.maftehon.specs.Reply.{built, imaged, repliedImage, blocked, segmented, repliedSegments}
 use Rattle.refusals.specs.Reply.{Reply, counted, replied}
 
 pub replied-is :
@@ -18,3 +20,8 @@ pub replied-image-is :
     (x : Built) (nodes ports : List ℕ) (promised : Left) (y : Reply) → left x nodes ports ≡ promised → y ≡ built x
     → imaged y nodes ports ≡ repliedImage promised
 replied-image-is x nodes ports promised y p q = ap (λ z. imaged z nodes ports) q ∙ ap repliedImage p
+
+pub replied-segments-is :
+    (x : SegmentsBuilt) (s : Stores) (promised : SegmentsLeft) (y : Reply) → segmentsLeft x s ≡ promised → y ≡ blocked x
+    → segmented y s ≡ repliedSegments promised
+replied-segments-is x s promised y p q = ap (λ z. segmented z s) q ∙ ap repliedSegments p

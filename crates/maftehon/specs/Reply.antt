@@ -1,9 +1,13 @@
--- Defines what C gets for the build of an image: RULES, "Calls". The reply, and the two memories written. Assumes nothing.
+-- Defines what C gets for the build of an image or of segment tables, and for the entries of a segment: RULES, "Calls". The reply, and the
+-- memories written. Assumes nothing.
 use mathlib.Core.List.{List, [], _∷_}
 use Prim.Native.Nat.{ℕ}
 use Rattle.image_build.specs.Build.{Left}
 use Rattle.image_build.specs.declared.Built.{Built}
 use Rattle.refusals.specs.Reply.{Reply, reply}
+use Rattle.segment_rules.specs.Build.{Stores, Left as SegmentsLeft}
+use Rattle.segment_rules.specs.declared.Built.{Built as SegmentsBuilt}
+use Rattle.segment_rules.specs.declared.Part.{Part}
 
 -- the place, and the nodes and ports written
 abbrev pub built : Built → Reply
@@ -20,3 +24,22 @@ imaged x nodes ports = record { reply = x; nodes = nodes; ports = ports }
 
 abbrev pub repliedImage : Left → Imaged
 repliedImage x = imaged (built (x .built)) (x .nodes) (x .ports)
+
+-- the place, and the packed segments, the plain segments and the last blocks
+abbrev pub blocked : SegmentsBuilt → Reply
+blocked x = reply (x .number) (x .place ∷ x .packed ∷ x .plain ∷ x .last ∷ [])
+
+-- what the build of segment tables leaves: its reply and the four stores
+pub record Segmented : Type 0 where
+  pub reply : Reply
+  pub stores : Stores
+
+abbrev pub segmented : Reply → Stores → Segmented
+segmented x stores = record { reply = x; stores = stores }
+
+abbrev pub repliedSegments : SegmentsLeft → Segmented
+repliedSegments x = segmented (blocked (x .built)) (x .stores)
+
+-- place 0, the offset in its store of the first entry of a segment, and how many entries there are
+abbrev pub located : Part → Reply
+located x = reply 0 (0 ∷ x .from ∷ x .count ∷ [])

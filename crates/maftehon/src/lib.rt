@@ -3,4 +3,5 @@ pub mod files;
 pub mod images;
 pub mod lists;
 mod replies;
+pub mod segments;
 pub mod tables;

@@ -5,6 +5,7 @@ use crate::library::Library;
 use crate::tally::Tally;
 use reference::Answer;
 use std::fmt::{self, Debug};
+use workload::segments::Stores;
 
 /// What a compared call, or a scenario of them, gives where the two libraries agree.
 ///
@@ -236,5 +237,32 @@ impl<'a> Checker<'a> {
             (library.table_runs)(rows.all(), n, runs.all_mut())
         });
         Ok(listed?.0)
+    }
+
+    /// Room is entries of each store.
+    pub fn segments_build(&mut self, list: &[u32], room: [usize; 4]) -> Compared<(Answer<4>, Stores)> {
+        let lent = (Lent::of(list), room.map(Lent::room));
+        let (answer, (_, stores)) = self.one("segments_build", lent, (list, room), |library, (list, stores)| {
+            (library.segments_build)(list.all(), stores.each_mut().map(Lent::all_mut))
+        })?;
+        Ok((answer, stores.map(|store| store.all().to_vec())))
+    }
+
+    pub fn segments_lookup(&mut self, stores: &Stores, addresses: &[u32]) -> Compared<Vec<Answer<3>>> {
+        let lent = stores.each_ref().map(|store| Lent::of(store));
+        let found = self.each("segments_lookup", lent, addresses, |library, stores, address| {
+            (library.segments_lookup)(stores.each_ref().map(Lent::all), *address)
+        });
+        Ok(found?.0)
+    }
+
+    /// The call for the debug page, with each of these entries of a first table.
+    pub fn segments_entries(&mut self, stores: &Stores, entries: &[u32]) -> Compared<Vec<Answer<3>>> {
+        let [_, packed, plain, _] = stores;
+        let lent = [Lent::of(packed), Lent::of(plain)];
+        let given = self.each("segments_entries", lent, entries, |library, stores, entry| {
+            (library.segments_entries)(stores.each_ref().map(Lent::all), *entry)
+        });
+        Ok(given?.0)
     }
 }

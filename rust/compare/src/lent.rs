@@ -47,7 +47,7 @@ impl<T: Pattern> Lent<T> {
     }
 }
 
-/// The memory of a call: one stretch, or pairs of them.
+/// The memory of a call: one stretch, pairs of them, or rows of them.
 pub trait Memory: Clone {
     /// Where the two first differ, the guards included.
     fn difference(&self, other: &Self) -> Option<String>;
@@ -65,5 +65,11 @@ impl<T: Pattern> Memory for Lent<T> {
 impl<A: Memory, B: Memory> Memory for (A, B) {
     fn difference(&self, other: &(A, B)) -> Option<String> {
         self.0.difference(&other.0).or_else(|| self.1.difference(&other.1))
+    }
+}
+
+impl<M: Memory, const N: usize> Memory for [M; N] {
+    fn difference(&self, other: &[M; N]) -> Option<String> {
+        self.iter().zip(other).find_map(|(own, others)| own.difference(others))
     }
 }

@@ -21,6 +21,11 @@ pub struct Library {
     pub image_lookup_constant: fn(u32, &[u32], &[u16], u32) -> Answer<3>,
     pub list_runs: fn(&[u32], &mut [u32]) -> Answer<2>,
     pub table_runs: fn(&[u32], u32, &mut [u32]) -> Answer<2>,
+    /// The stores are first, packed, plain and last.
+    pub segments_build: fn(&[u32], [&mut [u16]; 4]) -> Answer<4>,
+    pub segments_lookup: fn([&[u16]; 4], u32) -> Answer<3>,
+    /// The stores are packed and plain.
+    pub segments_entries: fn([&[u16]; 2], u32) -> Answer<3>,
 }
 
 /// The rules in plain Rust, which have one image lookup for every stride.
@@ -40,6 +45,11 @@ pub const REFERENCE: Library = Library {
     image_lookup_constant: reference::image_lookup,
     list_runs: reference::list_runs,
     table_runs: reference::table_runs,
+    segments_build: |list, [first, packed, plain, last]| reference::segments_build(list, first, packed, plain, last),
+    segments_lookup: |[first, packed, plain, last], address| {
+        reference::segments_lookup(first, packed, plain, last, address)
+    },
+    segments_entries: |[packed, plain], entry| reference::segments_entries(packed, plain, entry),
 };
 
 /// The proved library, through its C boundary.
@@ -67,6 +77,11 @@ pub const PROVED: Library = Library {
     },
     list_runs: |list, runs| of(calls::list_runs(list, runs)),
     table_runs: |rows, n, runs| of(calls::table_runs(rows, n, runs)),
+    segments_build: |list, [first, packed, plain, last]| of(calls::segments_build(list, first, packed, plain, last)),
+    segments_lookup: |[first, packed, plain, last], address| {
+        of(calls::segments_lookup(first, packed, plain, last, address))
+    },
+    segments_entries: |[packed, plain], entry| of(calls::segments_entries(packed, plain, entry)),
 };
 
 fn of<const N: usize>(reply: Reply<N>) -> Answer<N> {

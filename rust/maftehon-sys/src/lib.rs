@@ -128,4 +128,38 @@ unsafe extern "C" {
         run_words: usize,
         answer: *mut u32,
     ) -> u32;
+
+    pub fn mft_segments_build(
+        list: *const u32,
+        list_words: usize,
+        first: *mut u16,
+        first_count: usize,
+        packed: *mut u16,
+        packed_count: usize,
+        plain: *mut u16,
+        plain_count: usize,
+        last: *mut u16,
+        last_count: usize,
+        answer: *mut u32,
+    ) -> u32;
+    pub fn mft_segments_lookup(
+        first: *const u16,
+        first_count: usize,
+        packed: *const u16,
+        packed_count: usize,
+        plain: *const u16,
+        plain_count: usize,
+        last: *const u16,
+        last_count: usize,
+        address: u32,
+        answer: *mut u32,
+    ) -> u32;
+    pub fn mft_segments_entries(
+        packed: *const u16,
+        packed_count: usize,
+        plain: *const u16,
+        plain_count: usize,
+        entry: u32,
+        answer: *mut u32,
+    ) -> u32;
 }

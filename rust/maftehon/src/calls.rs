@@ -128,3 +128,55 @@ pub fn list_runs(list: &[u32], runs: &mut [u32]) -> Reply<2> {
 pub fn table_runs(rows: &[u32], n: u32, runs: &mut [u32]) -> Reply<2> {
     reply(|answer| unsafe { sys::mft_table_runs(rows.as_ptr(), rows.len(), n, runs.as_mut_ptr(), runs.len(), answer) })
 }
+
+/// Builds segment tables from a list. Answer: place, packed segments, plain segments, last blocks.
+pub fn segments_build(
+    list: &[u32],
+    first: &mut [u16],
+    packed: &mut [u16],
+    plain: &mut [u16],
+    last: &mut [u16],
+) -> Reply<4> {
+    reply(|answer| unsafe {
+        sys::mft_segments_build(
+            list.as_ptr(),
+            list.len(),
+            first.as_mut_ptr(),
+            first.len(),
+            packed.as_mut_ptr(),
+            packed.len(),
+            plain.as_mut_ptr(),
+            plain.len(),
+            last.as_mut_ptr(),
+            last.len(),
+            answer,
+        )
+    })
+}
+
+/// Looks an address up in any segment tables. Answer: place, port, reads.
+#[inline]
+pub fn segments_lookup(first: &[u16], packed: &[u16], plain: &[u16], last: &[u16], address: u32) -> Reply<3> {
+    reply(|answer| unsafe {
+        sys::mft_segments_lookup(
+            first.as_ptr(),
+            first.len(),
+            packed.as_ptr(),
+            packed.len(),
+            plain.as_ptr(),
+            plain.len(),
+            last.as_ptr(),
+            last.len(),
+            address,
+            answer,
+        )
+    })
+}
+
+/// Where the entries of the segment stand that an entry of the first table names: in `plain` if it is 49,152 or more,
+/// else in `packed`. Answer: place, offset, how many.
+pub fn segments_entries(packed: &[u16], plain: &[u16], entry: u32) -> Reply<3> {
+    reply(|answer| unsafe {
+        sys::mft_segments_entries(packed.as_ptr(), packed.len(), plain.as_ptr(), plain.len(), entry, answer)
+    })
+}

@@ -49,7 +49,7 @@ pub enum Refusal {
     NoRoom,
     /// 10: the withdrawn prefix is not held.
     NotHeld,
-    /// 11: the table or the image is not in good order.
+    /// 11: the table, the image or the segment tables are not in good order.
     NotInOrder,
     /// 12: the stride is not 1, 2 or 4.
     WrongStride,
@@ -127,7 +127,7 @@ impl Refusal {
             Refusal::TooManyRoutes(_) => "there are more than 4096 routes",
             Refusal::NoRoom => "there is no room left",
             Refusal::NotHeld => "the prefix to withdraw is not in the table",
-            Refusal::NotInOrder => "the table or image is damaged; build it again from its list",
+            Refusal::NotInOrder => "the table, image or segment tables are damaged; build them again from the list",
             Refusal::WrongStride => "the stride is not 1, 2 or 4",
         }
     }

@@ -110,7 +110,7 @@ impl fmt::Display for Run {
 pub struct Found {
     /// The port of the longest match; none where no route matches.
     pub port: Option<u16>,
-    /// The rows or nodes read on the way.
+    /// The rows, the nodes, or the words of segment tables, read on the way.
     pub read: u32,
 }
 

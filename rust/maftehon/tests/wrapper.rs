@@ -1,6 +1,6 @@
 //! The ordinary wrapper: what it gives, and the texts of its refusals.
 
-use maftehon::{Image, Place, Prefix, Refusal, Route, RouteList, Stride, Table};
+use maftehon::{Image, Place, Prefix, Refusal, Route, RouteList, SegmentTables, Stride, Table};
 use std::net::Ipv4Addr;
 
 /// The three routes of `examples/floor.routes`.
@@ -29,12 +29,14 @@ fn the_floor_example_has_seven_runs() {
 fn every_structure_gives_the_port_of_the_scan() {
     let list = floor();
     let table = Table::build(&list, 3).expect("room for three routes");
+    let segments = SegmentTables::build(&list);
     for stride in [Stride::One, Stride::Two, Stride::Four] {
         let image = Image::build(&list, stride);
         for run in list.runs() {
             for address in [run.first, run.last] {
                 assert_eq!(list.scan(address), run.port);
                 assert_eq!(table.lookup(address).port, run.port);
+                assert_eq!(segments.lookup(address).port, run.port);
                 assert_eq!(image.lookup(address).port, run.port);
             }
         }
@@ -71,9 +73,54 @@ fn the_empty_list_has_one_run_and_an_image_of_one_node() {
 }
 
 #[test]
-fn the_worst_list_is_built_at_every_stride() {
+fn segment_tables_of_the_floor_example_have_a_segment_for_10_1() {
+    // 10.0.0.0/8 to 7, 10.1.0.0/16 to 9, and 10.1.2.0/24 to 7.
+    let tables = SegmentTables::build(&floor());
+    assert_eq!((tables.packed_count(), tables.plain_count(), tables.last_count()), (1, 0, 0));
+    let found = |octets: [u8; 4]| tables.lookup(Ipv4Addr::from(octets));
+    for (octets, port, read) in
+        [([9, 0, 0, 0], None, 1), ([10, 2, 0, 0], Some(7), 1), ([10, 1, 2, 9], Some(7), 3), ([10, 1, 3, 0], Some(9), 3)]
+    {
+        assert_eq!((found(octets).port, found(octets).read), (port, read), "{octets:?}");
+    }
+}
+
+#[test]
+fn the_entries_of_a_segment_are_all_64_all_256_or_none() {
+    let octets = (0..32).flat_map(|number| [0x0A02_0000 | (1 + 2 * number) << 8, 24, 1]);
+    let words = [0x0A01_8000, 17, 9].into_iter().chain(octets).chain([0x0A03_0000, 32, 4]).collect();
+    let tables = SegmentTables::build(&RouteList::from_words(words).expect("a valid list"));
+    assert_eq!((tables.packed_count(), tables.plain_count(), tables.last_count()), (2, 1, 1));
+    assert_eq!(tables.entries(0x0A01), [&[0, 9][..], &[0; 62]].concat());
+    assert_eq!(tables.entries(0x0A02), [[0, 1].repeat(32), vec![0; 192]].concat());
+    assert_eq!(tables.entries(0x0A03), [&[32_768, 0][..], &[0; 62]].concat());
+    assert!(tables.entries(0x0A00).is_empty() && tables.entries(0).is_empty() && tables.entries(0xFFFF).is_empty());
+}
+
+#[test]
+fn the_entries_of_a_segment_are_not_copied() {
+    let words = [0x0A01_8000, 17, 9, 0x0A02_8000, 17, 9].to_vec();
+    let tables = SegmentTables::build(&RouteList::from_words(words).expect("a valid list"));
+    // Of two neighbours in one store the second stands one block, 96 words, after the first.
+    let [one, other] = [0x0A01, 0x0A02].map(|first_bits| tables.entries(first_bits).as_ptr() as usize);
+    assert_eq!(other - one, 96 * 2);
+}
+
+#[test]
+fn the_empty_list_has_segment_tables_without_a_block() {
+    let tables = SegmentTables::build(&RouteList::default());
+    assert_eq!((tables.packed_count(), tables.plain_count(), tables.last_count()), (0, 0, 0));
+    let found = tables.lookup(Ipv4Addr::BROADCAST);
+    assert_eq!((found.port, found.read), (None, 1));
+}
+
+#[test]
+fn the_worst_list_is_built_at_every_stride_and_into_segment_tables() {
     let worst: Vec<u32> = (0..4096).flat_map(|number| [number << 20 | 1, 32, 1]).collect();
     let list = RouteList::from_words(worst).expect("a valid list");
+    let tables = SegmentTables::build(&list);
+    assert_eq!((tables.packed_count(), tables.plain_count(), tables.last_count()), (4096, 0, 4096));
+    assert_eq!(tables.lookup(Ipv4Addr::new(0, 0, 0, 1)).port, Some(1));
     for stride in [Stride::One, Stride::Two, Stride::Four] {
         assert_eq!(Image::build(&list, stride).lookup(Ipv4Addr::new(0, 0, 0, 1)).port, Some(1));
     }

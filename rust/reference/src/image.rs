@@ -1,7 +1,7 @@
 //! The image, built from a list, and its lookup: rules, "The image (source documents 002 and 000)".
 
 use crate::list::routes_of;
-use crate::prefix::{plain_scan, Prefix, Route, NO_PORT, PORT_LAST, WIDTH};
+use crate::prefix::{bits_from, plain_scan, Prefix, Route, NO_PORT, PORT_LAST, WIDTH};
 use crate::refusal::{check_room, refuse, write_out, Answer, Refusal, NOT_IN_ORDER, WRONG_STRIDE};
 use std::collections::VecDeque;
 
@@ -131,7 +131,7 @@ fn search(stride: u32, nodes: &[u32], ports: &[u16], address: u32, nodes_read: &
         let next_unused = number.plus(Distance(u64::from(offset)));
         // A node that can have no leaf base is wrong, also where the address takes a non-leaf.
         let leaf_base = leaf_base(number, next_unused, slot_count)?;
-        let slot = slot_of(address, depth, stride);
+        let slot = bits_from(address, depth, stride);
         let leaves_before = (0..slot).filter(|before| is_leaf(bitmap, slot_count, *before)).count() as u64;
         if is_leaf(bitmap, slot_count, slot) {
             return port(ports, LeafNumber(leaf_base.0 + leaves_before));
@@ -175,11 +175,6 @@ fn port(ports: &[u16], leaf: LeafNumber) -> Result<u32, Refusal> {
         return refuse(NOT_IN_ORDER, 0);
     }
     Ok(port)
-}
-
-/// The number that bits depth..depth+stride-1 of the address make.
-fn slot_of(address: u32, depth: u32, stride: u32) -> u32 {
-    address >> (WIDTH - depth - stride) & ((1 << stride) - 1)
 }
 
 /// Slot 0 is the highest of the bitmap's bits; 1 means leaf.

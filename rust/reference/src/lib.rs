@@ -10,6 +10,7 @@ mod listing;
 pub mod prefix;
 pub mod refusal;
 mod runs;
+mod segments;
 mod table;
 mod trie;
 
@@ -19,4 +20,5 @@ pub use list::{list_check, list_scan};
 pub use listing::{list_runs, table_runs};
 pub use refusal::Answer;
 pub use runs::runs_text;
+pub use segments::{segments_build, segments_entries, segments_lookup};
 pub use table::{table_announce, table_build, table_check, table_lookup, table_save, table_withdraw};

@@ -39,6 +39,11 @@ pub fn bit(address: u32, index: u32) -> usize {
     (address >> (WIDTH - 1 - index) & 1) as usize
 }
 
+/// The number that `count` bits of the address make, from bit `from` on.
+pub(crate) fn bits_from(address: u32, from: u32, count: u32) -> u32 {
+    address >> (WIDTH - from - count) & ((1 << count) - 1)
+}
+
 /// Whether the first `count` bits of two addresses agree.
 pub fn agree(a: u32, b: u32, count: u32) -> bool {
     first_bits(a, count) == first_bits(b, count)

@@ -32,7 +32,7 @@ pub struct Answer<const N: usize> {
 impl<const N: usize> Answer<N> {
     /// Done, with these results after the place 0; refused, with `kept` after the place.
     ///
-    /// `kept` is what a refusal leaves of the results: zeros, but n as it was and the rows or nodes read so far.
+    /// `kept` is what a refusal leaves of the results: zeros, but n as it was and what a lookup has read so far.
     pub(crate) fn of<const R: usize>(results: Result<[u32; R], Refusal>, kept: [u32; R]) -> Answer<N> {
         match results {
             Ok(words) => Answer { number: DONE, answer: place_first(0, words) },

@@ -1,9 +1,10 @@
-//! Both tries against the run listing, over the whole address space or a sample of it.
+//! Both tries and the segment tables against the run listing, over the whole address space or a sample of it.
 
 use maftehon::calls::{self, Reply};
 use std::ops::Range;
 use std::sync::atomic::{AtomicU64, Ordering};
 use workload::list_of;
+use workload::segments::{cut_to, room_for, Stores};
 
 const RUN_WORDS: usize = 3;
 const NODE_WORDS: usize = 2;
@@ -15,14 +16,15 @@ const THREADS: usize = 2;
 /// First address, last address, port.
 type Run = [u32; RUN_WORDS];
 
-/// What answers lookups: an image, or a table.
+/// What answers lookups: an image, a table, or segment tables.
 pub enum Structure {
     Image { stride: u32, nodes: Vec<u32>, ports: Vec<u16> },
     Table { rows: Vec<u32>, n: u32 },
+    Segments(Stores),
 }
 
 impl Structure {
-    /// The images at strides 1, 2 and 4, and the table, all built by the proved library.
+    /// The images at strides 1, 2 and 4, the table and the segment tables, all built by the proved library.
     ///
     /// # Panics
     ///
@@ -33,6 +35,7 @@ impl Structure {
         let built = calls::table_build(list, &mut rows);
         assert_eq!(built.number, 0, "a valid list is built");
         all.push(Structure::Table { rows, n: built.answer[1] });
+        all.push(Structure::segments(list));
         all
     }
 
@@ -46,18 +49,30 @@ impl Structure {
         Structure::Image { stride, nodes, ports }
     }
 
+    fn segments(list: &[u32]) -> Structure {
+        let mut stores = room_for(list.len() / 3).map(|size| vec![0; size]);
+        let [first, packed, plain, last] = &mut stores;
+        let built = calls::segments_build(list, first, packed, plain, last);
+        assert_eq!(built.number, 0, "a valid list is built");
+        let [_, blocks @ ..] = built.answer;
+        cut_to(&mut stores, blocks);
+        Structure::Segments(stores)
+    }
+
     pub fn name(&self) -> String {
         match self {
             Structure::Image { stride, .. } => format!("image, stride {stride}"),
             Structure::Table { .. } => "table".into(),
+            Structure::Segments(_) => "segment tables".into(),
         }
     }
 
-    /// The most nodes or rows that a lookup may read.
+    /// The most nodes, rows or words that a lookup may read.
     fn read_last(&self) -> u32 {
         match self {
             Structure::Image { stride, .. } => 32 / stride,
             Structure::Table { .. } => 33,
+            Structure::Segments(_) => 4,
         }
     }
 
@@ -67,6 +82,9 @@ impl Structure {
             Structure::Image { stride: 2, nodes, ports } => calls::image_lookup_2(nodes, ports, address),
             Structure::Image { nodes, ports, .. } => calls::image_lookup_4(nodes, ports, address),
             Structure::Table { rows, n } => calls::table_lookup(rows, *n, address),
+            Structure::Segments([first, packed, plain, last]) => {
+                calls::segments_lookup(first, packed, plain, last, address)
+            }
         }
     }
 

@@ -3,6 +3,7 @@
 pub mod bench;
 pub mod exhaustive;
 pub mod plain_check;
+pub mod plain_segments;
 pub mod plain_trie;
 pub mod plain_walk;
 

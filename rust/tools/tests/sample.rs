@@ -3,7 +3,7 @@
 use tools::exhaustive::{list_and_runs, sample_of, Structure};
 
 #[test]
-fn images_and_table_agree_with_the_run_listing_on_a_sample() {
+fn images_table_and_segment_tables_agree_with_the_run_listing_on_a_sample() {
     for kind in tools::KINDS {
         let (list, runs) = list_and_runs(kind);
         let sample = sample_of(&runs, 10_007);

@@ -1,8 +1,11 @@
-//! Damage to lists, files, rows and images, of the kinds that a check could overlook: one thing made another that could
-//! pass for it, parts exchanged, ends cut off.
+//! Damage to lists, files, rows, images and segment tables, of the kinds that a check could overlook: one thing made
+//! another that could pass for it, parts exchanged, ends cut off.
 
 use crate::random::Random;
+use crate::segments::{Stores, LAST_POINTER, PACKED_POINTER, PLAIN_POINTER};
+use crate::segments::{CODEWORDS, OCTET_ENTRIES, PACKED_WORDS};
 use crate::spare::{set_spare_bits, shorten_prefix};
+use std::ops::Range;
 
 const ROUTE_WORDS: usize = 3;
 const ROW_WORDS: usize = 5;
@@ -128,6 +131,92 @@ fn with_leaf_bases(stride: u32, nodes: &[u32]) -> Vec<u32> {
         [node[0], if leaves == 1 << stride { 0 } else { node[1] }, base]
     };
     nodes.chunks_exact(NODE_WORDS).flat_map(three_words).collect()
+}
+
+/// Damages a word of segment tables, exchanges two, cuts a store or makes it longer. In the first table it takes an
+/// entry that names a segment, if there is one, or the entry of the first or of the last addresses.
+pub fn damage_segments(stores: &mut Stores, random: &mut Random) {
+    let [first, packed, plain, last] = stores;
+    let segments = [(PACKED_POINTER, packed.len() / PACKED_WORDS), (PLAIN_POINTER, plain.len() / OCTET_ENTRIES)];
+    let last_blocks = (LAST_POINTER, last.len() / OCTET_ENTRIES);
+    match random.below(12) {
+        0..=2 => put(first, edge_entry(random.pick(&segments), random), |first| place_in_first(first, random)),
+        3..=4 => put(packed, edge_codeword(random), |packed| place_in_packed(packed, 0..CODEWORDS, random)),
+        5 => put(packed, edge_entry(last_blocks, random), |packed| {
+            place_in_packed(packed, CODEWORDS..PACKED_WORDS, random)
+        }),
+        6 => put(plain, edge_entry(last_blocks, random), |plain| any_place(plain, random)),
+        7 => put(last, edge_entry(last_blocks, random), |last| any_place(last, random)),
+        8 => flip_bit_of_any(stores, random),
+        9 => exchange_two(&mut stores[1 + random.index(3)], random),
+        10 => cut_or_extend(&mut stores[1 + random.index(3)], 0, random),
+        _ => cut_by_one(&mut stores[random.index(4)]),
+    }
+}
+
+/// A store without such a place stays as it is.
+fn put(store: &mut [u16], word: u16, place: impl FnOnce(&[u16]) -> Option<usize>) {
+    if let Some(place) = place(store) {
+        store[place] = word;
+    }
+}
+
+fn any_place(store: &[u16], random: &mut Random) -> Option<usize> {
+    (!store.is_empty()).then(|| random.index(store.len()))
+}
+
+fn place_in_first(first: &[u16], random: &mut Random) -> Option<usize> {
+    let mut places: Vec<usize> = (0..first.len()).filter(|place| first[*place] >= PACKED_POINTER).collect();
+    if places.is_empty() && !first.is_empty() {
+        places = vec![0, first.len() - 1];
+    }
+    (!places.is_empty()).then(|| random.pick(&places))
+}
+
+/// A word of a packed block: one of its codewords, or one of its entries.
+fn place_in_packed(packed: &[u16], words: Range<usize>, random: &mut Random) -> Option<usize> {
+    let blocks = packed.len() / PACKED_WORDS;
+    (blocks > 0).then(|| PACKED_WORDS * random.index(blocks) + words.start + random.index(words.len()))
+}
+
+/// A port about 4094, a number between ports and pointers, a pointer about the end of its store, or one of another.
+fn edge_entry((pointer, blocks): (u16, usize), random: &mut Random) -> u16 {
+    let past = pointer.wrapping_add(blocks as u16);
+    let ports = [0, 1, 4094, 4095, 1 << 14, PACKED_POINTER - 1];
+    let about_the_end = [pointer, past.wrapping_sub(1), past, past.wrapping_add(1)];
+    let of_any_store = [PACKED_POINTER, PLAIN_POINTER - 1, PLAIN_POINTER, u16::MAX];
+    match random.below(4) {
+        0 => random.pick(&ports),
+        1 => random.pick(&of_any_store),
+        _ => random.pick(&about_the_end),
+    }
+}
+
+/// No bit, the first, the last or all of them, with a base that takes the index to an edge of 0..63 or past it.
+fn edge_codeword(random: &mut Random) -> u16 {
+    let bits = random.pick(&[0, 0x80, 0x01, 0xFF]);
+    let base = random.pick(&[0, 0, 1, 55, 56, 57, 62, 63, 64, 65, 255]);
+    bits << 8 | base
+}
+
+fn flip_bit_of_any(stores: &mut Stores, random: &mut Random) {
+    let store = random.index(stores.len());
+    let words = &mut stores[store];
+    let place = if store == 0 { place_in_first(words, random) } else { any_place(words, random) };
+    if let Some(place) = place {
+        words[place] ^= 1 << random.below(16);
+    }
+}
+
+fn exchange_two(store: &mut [u16], random: &mut Random) {
+    if let (Some(a), Some(b)) = (any_place(store, random), any_place(store, random)) {
+        store.swap(a, b);
+    }
+}
+
+/// The last block is then lent in part, and the first table is too short.
+fn cut_by_one(store: &mut Vec<u16>) {
+    store.pop();
 }
 
 /// Leaves that many elements at least.

@@ -30,6 +30,7 @@ pub fn damaged_lists(checker: &mut Checker, random: &mut Random, most: usize) ->
             checker.table_build(&list, room)?;
             checker.list_runs(&list, room)?;
             checker.image_build(random.pick(&[1, 2, 4, 3]), &list, (room, room))?;
+            checker.segments_build(&list, [room; 4])?;
         }
     }
     Ok(())

@@ -4,12 +4,14 @@ mod files;
 mod histories;
 mod images;
 mod lists;
+mod segments;
 mod tables;
 
 pub use files::{damaged_files, noise_files, spared_files, valid_files};
 pub use histories::history;
 pub use images::{damaged_images, valid_images};
 pub use lists::{damaged_lists, valid_lists};
+pub use segments::{damaged_segments, noise_segments, valid_segments};
 pub use tables::{damaged_tables, valid_tables, wrong_arguments};
 
 use crate::checker::{Checker, Compared};
@@ -19,7 +21,7 @@ use workload::{Held, Kind, Random};
 pub type Scenario = fn(&mut Checker, &mut Random, usize) -> Compared<()>;
 
 /// Every scenario, with its name.
-pub const ALL: [(&str, Scenario); 12] = [
+pub const ALL: [(&str, Scenario); 15] = [
     ("valid files", valid_files),
     ("spared files", spared_files),
     ("damaged files", damaged_files),
@@ -31,6 +33,9 @@ pub const ALL: [(&str, Scenario); 12] = [
     ("wrong arguments", wrong_arguments),
     ("valid images", valid_images),
     ("damaged images", damaged_images),
+    ("valid segments", valid_segments),
+    ("damaged segments", damaged_segments),
+    ("noise segments", noise_segments),
     ("history", |checker, random, most| history(checker, random, 1 + most / 2, 40)),
 ];
 

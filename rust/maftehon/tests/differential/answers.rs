@@ -20,6 +20,8 @@ fn assert_answers<const N: usize>(number: u32, answer: [u32; N], call: impl Fn(*
 const LIST: [u32; 3] = [10 << 24, 8, 7];
 const ROW: [u32; 5] = [10 << 24, 8, 7, 0, 0];
 const FILE: [u8; 9] = [1, 0, 0, 0, 4, 8, 10, 0, 7];
+/// 10.0.0.0/17 to port 7, which makes a segment.
+const LIST_OF_17_BITS: [u32; 3] = [10 << 24, 17, 7];
 
 #[test]
 fn calls_on_files_and_lists_write_their_answer_alone() {
@@ -83,5 +85,33 @@ fn calls_on_images_write_their_answer_alone() {
         assert_answers(11, [0, 0, 1], |answer| mft_image_lookup_4(nodes, 3, ports, 31, 10 << 24, answer));
         assert_answers(11, [0, 0, 0], |answer| mft_image_lookup_1(nodes, 0, ports, 31, 10 << 24, answer));
         assert_answers(11, [0, 0, 0], |answer| mft_image_lookup_2(nodes, 0, ports, 31, 10 << 24, answer));
+    }
+}
+
+#[test]
+fn calls_on_segment_tables_write_their_answer_alone() {
+    let (list, of_17_bits) = (LIST.as_ptr(), LIST_OF_17_BITS.as_ptr());
+    let (mut first, mut packed) = (vec![0; 65_536], [0; 96]);
+    let (first, packed) = (first.as_mut_ptr(), packed.as_mut_ptr());
+    let (mut plain, mut last) = ([0; 1], [0; 1]);
+    let (plain, last) = (plain.as_mut_ptr(), last.as_mut_ptr());
+    // SAFETY: every pointer is valid for the size that goes with it, and `answer` overlaps none of them.
+    unsafe {
+        let build = |list, first_count, packed_count, answer| {
+            mft_segments_build(list, 3, first, first_count, packed, packed_count, plain, 1, last, 1, answer)
+        };
+        let lookup = |first_count, packed_count, address, answer| {
+            mft_segments_lookup(first, first_count, packed, packed_count, plain, 1, last, 1, address, answer)
+        };
+        assert_answers(9, [0, 0, 0, 0], |answer| build(list, 65_535, 96, answer));
+        assert_answers(0, [0, 0, 0, 0], |answer| build(list, 65_536, 96, answer));
+        assert_answers(0, [0, 7, 1], |answer| lookup(65_536, 96, 10 << 24, answer));
+        assert_answers(9, [0, 0, 0, 0], |answer| build(of_17_bits, 65_536, 95, answer));
+        assert_answers(0, [0, 1, 0, 0], |answer| build(of_17_bits, 65_536, 96, answer));
+        assert_answers(0, [0, 7, 3], |answer| lookup(65_536, 96, 10 << 24, answer));
+        assert_answers(11, [0, 0, 1], |answer| lookup(65_536, 95, 10 << 24, answer));
+        assert_answers(11, [0, 0, 0], |answer| lookup(65_535, 96, 10 << 24, answer));
+        assert_answers(0, [0, 32, 64], |answer| mft_segments_entries(packed, 96, plain, 1, 32_768, answer));
+        assert_answers(0, [0, 0, 0], |answer| mft_segments_entries(packed, 96, plain, 1, 49_152, answer));
     }
 }

@@ -30,6 +30,7 @@ fn lists_about_the_most_routes_are_accepted_and_refused_alike() {
             checker.table_build(&list, 5 * 5000)?;
             checker.list_runs(&list, 30_000)?;
             checker.image_build(4, &list, (2 * 5000, 16 * 5000))?;
+            checker.segments_build(&list, [65_536, 96, 256, 20 * 256])?;
         }
         Ok(())
     });

@@ -8,4 +8,5 @@ mod histories;
 mod images;
 mod lists;
 mod refusals;
+mod segments;
 mod tables;

@@ -28,9 +28,23 @@ fn every_refusal_from_1_to_12_is_met() {
 fn lists_and_updates_are_refused_5_and_files_never() {
     let tally = after_all_scenarios().tally;
     assert_eq!(tally.of_call("file_read", 5), 0, "{tally}");
-    let of_lists = ["file_write", "list_check", "list_scan", "list_runs", "table_build", "image_build"];
+    let of_lists =
+        ["file_write", "list_check", "list_scan", "list_runs", "table_build", "image_build", "segments_build"];
     let of_updates = ["table_announce", "table_withdraw"];
     for call in of_lists.iter().chain(&of_updates) {
         assert!(tally.of_call(call, 5) > 0, "5 was not met by {call} in\n{tally}");
+    }
+}
+
+#[test]
+fn segment_tables_are_refused_as_the_rules_say_and_with_no_other_number() {
+    let tally = after_all_scenarios().tally;
+    // 8 takes more routes than these scenarios have.
+    for (call, numbers) in
+        [("segments_build", &[0, 3, 4, 5, 6, 7, 9][..]), ("segments_lookup", &[0, 11]), ("segments_entries", &[0])]
+    {
+        for number in 0..=12 {
+            assert_eq!(tally.of_call(call, number) > 0, numbers.contains(&number), "{call}, {number} in\n{tally}");
+        }
     }
 }

@@ -1,9 +1,12 @@
-//! Damaged rows and images: good order against a second check, and lookups that end in their bounds.
+//! Damaged rows, images and segment tables: good order against a second check, and lookups that end in their bounds.
 
-use crate::support::{agree, first_bits_of, image_of, list_of, table_of, Random, STRIDES};
+use crate::support::{
+    agree, first_bits_of, image_of, list_of, look_up_segments, segments_of, table_of, Random, STRIDES,
+};
 use reference::{image_lookup, table_announce, table_check, table_lookup, table_withdraw};
 use std::cmp::Reverse;
-use workload::{damage_image, damage_rows};
+use workload::segments::noise_stores;
+use workload::{damage_image, damage_rows, damage_segments};
 
 /// Longer first, then the smaller value.
 type Rank = (u32, Reverse<u32>);
@@ -123,6 +126,26 @@ fn a_lookup_in_a_damaged_image_ends_with_at_most_32_over_stride_read() {
             let [place, port, nodes_read] = found.answer;
             assert!([0, 11].contains(&found.number) && place == 0, "seed {seed}");
             assert!((1..=32 / stride).contains(&nodes_read), "seed {seed}");
+            assert!(port <= 4094 && (port == 0 || found.number == 0), "seed {seed}");
+        }
+    }
+}
+
+#[test]
+fn a_lookup_in_damaged_segment_tables_ends_with_at_most_4_reads() {
+    for seed in 0..300 {
+        let mut random = Random::new(seed);
+        let held = random.held(8);
+        let mut stores = match random.below(2) {
+            0 => segments_of(&list_of(&held)),
+            _ => noise_stores(&mut random),
+        };
+        (0..=random.below(2)).for_each(|_| damage_segments(&mut stores, &mut random));
+        for _ in 0..50 {
+            let found = look_up_segments(&stores, random.address(&held));
+            let [place, port, reads] = found.answer;
+            assert!([0, 11].contains(&found.number) && place == 0, "seed {seed}");
+            assert!((1..=4).contains(&reads) || stores[0].len() < 65_536 && reads == 0, "seed {seed}");
             assert!(port <= 4094 && (port == 0 || found.number == 0), "seed {seed}");
         }
     }

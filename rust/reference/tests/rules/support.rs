@@ -1,6 +1,8 @@
-//! What the tests share: prefixes written as bits, tables and images of lists, and a plain scan of the tests' own.
+//! What the tests share: prefixes written as bits, tables, images and segment tables of lists, and a plain scan of the
+//! tests' own.
 
-use reference::{image_build, table_build, Answer};
+use reference::{image_build, segments_build, segments_lookup, table_build, Answer};
+pub use workload::segments::Stores;
 pub use workload::{first_bits_of, full_length_list, list_of, Held, Prefix, Random};
 
 /// What a lent word, byte or port holds before a call, to see what is written.
@@ -55,6 +57,32 @@ pub fn image_of(stride: u32, list: &[u32]) -> (Vec<u32>, Vec<u16>) {
     nodes.truncate(NODE_WORDS * node_count);
     ports.truncate(port_count);
     (nodes, ports)
+}
+
+/// What a build answers, lent so many entries of each store, and what it leaves in them.
+pub fn build_segments(list: &[u32], room: [usize; 4]) -> (Answer<4>, Stores) {
+    let mut stores = room.map(|size| vec![UNTOUCHED_PORT; size]);
+    let [first, packed, plain, last] = &mut stores;
+    let answer = segments_build(list, first, packed, plain, last);
+    (answer, stores)
+}
+
+/// The stores of segment tables built with room to spare, cut to what was written.
+pub fn segments_of(list: &[u32]) -> Stores {
+    let blocks_most = 1 + list.len() / 3;
+    let room = [65_536 + 1, 96 * blocks_most, 256 * blocks_most, 256 * blocks_most];
+    let (answer, mut stores) = build_segments(list, room);
+    assert_eq!((answer.number, answer.answer[0]), (0, 0));
+    let [_, packed, plain, last] = answer.answer.map(|count| count as usize);
+    for (store, size) in stores.iter_mut().zip([65_536, 96 * packed, 256 * plain, 256 * last]) {
+        assert!(store[size..].iter().all(|entry| *entry == UNTOUCHED_PORT));
+        store.truncate(size);
+    }
+    stores
+}
+
+pub fn look_up_segments([first, packed, plain, last]: &Stores, address: u32) -> Answer<3> {
+    segments_lookup(first, packed, plain, last, address)
 }
 
 /// Whether the first `count` bits of two addresses agree, bit by bit.

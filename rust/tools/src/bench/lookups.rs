@@ -1,4 +1,4 @@
-//! Lookups: every structure against the plain trie, and the image at stride 4 against a plain walk of it in C.
+//! Lookups: table and images against the plain trie, and the image at stride 4 against a plain walk of it in C.
 
 use super::race::{Race, Runner};
 use super::subject::{Image, Subject};
@@ -25,7 +25,7 @@ pub fn races(subject: &Subject) -> Vec<Race<'_>> {
 }
 
 /// A race of lookups of all the addresses, one after the other, which the plain trie takes part in.
-fn against_trie<'a>(
+pub fn against_trie<'a>(
     what: &'static str,
     subject: &'a Subject,
     proved: impl Fn(u32) -> Reply<3> + 'a,

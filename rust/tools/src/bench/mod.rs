@@ -6,6 +6,7 @@ mod lists;
 mod lookups;
 mod race;
 mod report;
+mod segments;
 mod subject;
 mod svg;
 mod updates;
@@ -29,5 +30,6 @@ pub fn measure(kind: Kind, rounds: usize) -> Measured {
     let mut races = lookups::races(&subject);
     races.extend(lists::races(&subject));
     races.extend(updates::races(&subject));
+    races.extend(segments::races(&subject));
     Measured { set: kind.name(), outcomes: race::run(races, rounds) }
 }

@@ -8,6 +8,8 @@ use std::time::{Duration, Instant};
 pub enum Runner {
     Proved,
     Plain,
+    /// The proved library itself, by an image at stride 4: another structure for the same addresses.
+    Image,
     Reference,
 }
 

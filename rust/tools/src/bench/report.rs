@@ -1,31 +1,39 @@
-//! The outcomes as a Markdown table for each set.
+//! The outcomes as Markdown tables for each set.
 
 use super::race::{Outcome, Runner};
 use super::Measured;
 
 pub fn report(all: &[Measured]) -> String {
-    all.iter().map(table).collect::<Vec<_>>().join("\n")
+    all.iter().map(tables).collect::<Vec<_>>().join("\n")
 }
 
-fn table(measured: &Measured) -> String {
-    let head =
-        "| What | proved | plain | proved ÷ plain | reference | proved ÷ reference |\n|---|---|---|---|---|---|\n";
-    let rows: String = measured.outcomes.iter().map(row).collect();
-    format!("### {}\n\n{head}{rows}", measured.set)
-}
-
-fn row(outcome: &Outcome) -> String {
-    let time_of = |runner| outcome.of(runner).map_or("".into(), time);
-    let ratio_to = |runner| outcome.ratio(runner).map_or("".into(), three_figures);
+/// First what is measured against plain code and the reference, then segment tables against an image.
+fn tables(measured: &Measured) -> String {
+    let (with_images, others): (Vec<&Outcome>, Vec<&Outcome>) =
+        measured.outcomes.iter().partition(|outcome| outcome.of(Runner::Image).is_some());
+    let head = ["What", "proved", "plain", "proved ÷ plain", "reference", "proved ÷ reference"];
+    let row =
+        |outcome: &&Outcome| [cells(outcome, Runner::Plain), cells(outcome, Runner::Reference)[2..].into()].concat();
+    let image_head = ["What", "segment tables", "image, stride 4", "segment tables ÷ image"];
+    let image_row = |outcome: &&Outcome| cells(outcome, Runner::Image);
     format!(
-        "| {} | {} | {} | {} | {} | {} |\n",
-        outcome.what,
-        time_of(Runner::Proved),
-        time_of(Runner::Plain),
-        ratio_to(Runner::Plain),
-        time_of(Runner::Reference),
-        ratio_to(Runner::Reference),
+        "### {}\n\n{}\n{}",
+        measured.set,
+        table(&head, others.iter().map(row)),
+        table(&image_head, with_images.iter().map(image_row)),
     )
+}
+
+/// What was measured, the time of the proved library, that of this runner, and the ratio; empty where it did not run.
+fn cells(outcome: &Outcome, runner: Runner) -> Vec<String> {
+    let time_of = |runner| outcome.of(runner).map_or("".into(), time);
+    let ratio = outcome.ratio(runner).map_or("".into(), three_figures);
+    vec![outcome.what.into(), time_of(Runner::Proved), time_of(runner), ratio]
+}
+
+fn table(head: &[&str], rows: impl Iterator<Item = Vec<String>>) -> String {
+    let rows: String = rows.map(|cells| format!("| {} |\n", cells.join(" | "))).collect();
+    format!("| {} |\n|{}\n{rows}", head.join(" | "), "---|".repeat(head.len()))
 }
 
 fn time(nanoseconds: f64) -> String {

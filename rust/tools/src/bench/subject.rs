@@ -2,6 +2,7 @@
 
 use crate::exhaustive::Structure;
 use crate::plain_trie::PlainTrie;
+use workload::segments::Stores;
 use workload::{list_of, Held, Kind, Random};
 
 /// How many addresses a turn looks up.
@@ -19,6 +20,7 @@ pub struct Subject {
     pub images: [Image; 3],
     /// At stride 4, of no route: the root alone, so that a lookup in it is little more than the call.
     pub empty_image: Image,
+    pub segments: Stores,
     pub trie: PlainTrie,
     pub addresses: Vec<u32>,
 }
@@ -27,23 +29,39 @@ impl Subject {
     pub fn new(kind: Kind) -> Subject {
         let held = crate::full_set(kind);
         let list = list_of(&held);
-        let (images, (rows, n)) = built(&list);
-        let ([.., empty_image], _) = built(&[]);
+        let Built { images, rows, n, segments } = Built::of(&list);
+        let Built { images: [.., empty_image], .. } = Built::of(&[]);
         let (trie, addresses) = (PlainTrie::build(&list), addresses(&list));
-        Subject { held, list, rows, n, images, empty_image, trie, addresses }
+        Subject { held, list, rows, n, images, empty_image, segments, trie, addresses }
     }
 }
 
-/// The images at strides 1, 2 and 4, and the table: its rows and how many they are.
-fn built(list: &[u32]) -> ([Image; 3], (Vec<u32>, u32)) {
-    let (mut images, mut table) = (Vec::new(), None);
-    for structure in Structure::all_of(list) {
-        match structure {
-            Structure::Image { nodes, ports, .. } => images.push((nodes, ports)),
-            Structure::Table { rows, n } => table = Some((rows, n)),
+/// The images at strides 1, 2 and 4, the rows of the table and how many they are, and the segment tables.
+struct Built {
+    images: [Image; 3],
+    rows: Vec<u32>,
+    n: u32,
+    segments: Stores,
+}
+
+impl Built {
+    fn of(list: &[u32]) -> Built {
+        let (mut images, mut table, mut segments) = (Vec::new(), None, None);
+        for structure in Structure::all_of(list) {
+            match structure {
+                Structure::Image { nodes, ports, .. } => images.push((nodes, ports)),
+                Structure::Table { rows, n } => table = Some((rows, n)),
+                Structure::Segments(stores) => segments = Some(stores),
+            }
+        }
+        let (rows, n) = table.expect("a table is among the structures");
+        Built {
+            images: images.try_into().expect("an image for each of three strides"),
+            rows,
+            n,
+            segments: segments.expect("segment tables are among the structures"),
         }
     }
-    (images.try_into().expect("an image for each of three strides"), table.expect("a table is among the structures"))
 }
 
 /// Half of them inside a route, the others anywhere.

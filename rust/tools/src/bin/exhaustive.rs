@@ -1,5 +1,5 @@
-//! `exhaustive [--sample N]`: images and table of three sets of 4,096 routes against the run listing, at every one of
-//! the 2^32 addresses, or at those next to a run's ends and every N-th one.
+//! `exhaustive [--sample N]`: images, table and segment tables of three sets of 4,096 routes against the run listing, at
+//! every one of the 2^32 addresses, or at those next to a run's ends and every N-th one.
 //!
 //! Prints a line for each set and structure, and ends with 1 at a difference.
 

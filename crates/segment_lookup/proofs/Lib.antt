@@ -1,0 +1,4 @@
+-- Laws of this layer that belong to no one function.
+pub mod Parts
+pub mod Ranked
+pub mod Unique

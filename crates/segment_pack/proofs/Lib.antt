@@ -1,0 +1,4 @@
+-- Laws of packing.
+pub mod Codewords
+pub mod Packed
+pub mod Unique

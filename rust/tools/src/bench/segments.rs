@@ -1,0 +1,62 @@
+//! Segment tables: lookups against the plain trie, a plain lookup in C and the image at stride 4; and the build.
+
+use super::lookups::against_trie;
+use super::race::{Race, Runner};
+use super::subject::Subject;
+use crate::plain_segments;
+use maftehon::calls;
+use maftehon::RouteList;
+use workload::segments::{room_for, Stores};
+
+pub fn races(subject: &Subject) -> Vec<Race<'_>> {
+    vec![lookup(subject), lookup_in_c(subject), lookup_in_image(subject), build(subject)]
+}
+
+fn lookup(subject: &Subject) -> Race<'_> {
+    let [first, packed, plain, last] = &subject.segments;
+    against_trie(
+        "segment lookup",
+        subject,
+        |address| calls::segments_lookup(first, packed, plain, last, address),
+        |address| reference::segments_lookup(first, packed, plain, last, address),
+    )
+}
+
+/// The proved library's lookup, which is to race another one.
+fn proved<'a>(what: &'static str, subject: &'a Subject) -> Race<'a> {
+    let Subject { segments: [first, packed, plain, last], addresses, .. } = subject;
+    Race::new(what).runner(Runner::Proved, addresses.len(), move |number| {
+        calls::segments_lookup(first, packed, plain, last, addresses[number]).answer[1]
+    })
+}
+
+fn lookup_in_c(subject: &Subject) -> Race<'_> {
+    let Subject { segments: [first, packed, plain, last], addresses, .. } = subject;
+    proved("segment lookup, against C", subject).runner(Runner::Plain, addresses.len(), move |number| {
+        plain_segments::lookup(first, packed, plain, last, addresses[number]).answer[1]
+    })
+}
+
+fn lookup_in_image(subject: &Subject) -> Race<'_> {
+    let Subject { images: [_, _, (nodes, ports)], addresses, .. } = subject;
+    proved("lookup", subject).runner(Runner::Image, addresses.len(), move |number| {
+        calls::image_lookup_4(nodes, ports, addresses[number]).answer[1]
+    })
+}
+
+fn build(subject: &Subject) -> Race<'_> {
+    let list = &subject.list;
+    let room = || -> Stores { room_for(list.len() / 3).map(|size| vec![0; size]) };
+    let valid = RouteList::from_words(list.clone()).expect("the list of a set is valid");
+    let (mut stores, mut plain_stores, mut other_stores) = (room(), room(), room());
+    Race::new("segment build, and a plain one in C")
+        .runner(Runner::Proved, 1, move |_| {
+            let [first, packed, plain, last] = &mut stores;
+            calls::segments_build(list, first, packed, plain, last)
+        })
+        .runner(Runner::Plain, 1, move |_| plain_segments::build(&valid, &mut plain_stores))
+        .runner(Runner::Reference, 1, move |_| {
+            let [first, packed, plain, last] = &mut other_stores;
+            reference::segments_build(list, first, packed, plain, last)
+        })
+}

@@ -14,7 +14,7 @@ use Rattle.refusals.specs.Refusals.{accepted}
 use Rattle.refusals.specs.Reply.{Reply}
 use Rattle.refusals.specs.declared.Answer.{Answer}
 use Rattle.routes.specs.Routes.{routeAt}
-use Rattle.lists.specs.Numbered.{listOf}
+use Rattle.lists.specs.Numbered.{listOf, inOrder}
 use Rattle.routes.specs.Check.{faultAt, firstFault, routesCheck, listCheck}
 use Rattle.routes.specs.Scan.{scanOf}
 use Rattle.file_rules.specs.Theorems.{emptyFile}
@@ -33,6 +33,8 @@ use Rattle.runs_rules.proofs.Listing.{listed-lists, listed-none, list-runs-done
 use Rattle.table_runs.specs.TableRuns.{tableRoutes, tableRuns}
 use Rattle.segment_rules.specs.Tables.{firstSize}
 use Rattle.segment_rules.specs.Build.{Stores, buildSegments}
+use Rattle.octets.specs.Bytes.{digits}
+use Rattle.message_rules.specs.Written.{writeMessage}
 use Rattle.maftehon.specs.Reply.{Segmented}
 use Rattle.demands.specs.SegmentChecks.{SixteenBits}
 use Rattle.demands.specs.Boundary.{Boundary}
@@ -43,6 +45,8 @@ use Rattle.demands.proofs.OfLists.{read-refuses, write-refuses, check-r
 use Rattle.demands.proofs.OfTables.{table-check-refuses, build-refuses, save-refuses, table-runs-refuses}
 use Rattle.demands.proofs.OfImages.{image-build-refuses, image-lookup-refuses}
 use Rattle.demands.proofs.OfSegments.{segments-build-refuses, words-on}
+use Rattle.demands.proofs.OfMessages.{apply-refuses, withdrawal-refuses}
+use Rattle.demands.proofs.Messages.{nothing, nothing-bytes, nothing-applied}
 use Rattle.demands.proofs.Images.{image-is}
 use Rattle.demands.proofs.Roomy.{Roomy, few-built, zero-found, zeroStores, zeros-roomy, zeros-bits}
 
@@ -68,6 +72,11 @@ no-routes-built = rw no-routes-fine
 pub whole-space-built : numberOf (buildInto fiveWords 32 wholeSpace (replicate 5 0)) ≡ 0
 unfolding buildInto
 whole-space-built = rw whole-space-fine
+
+-- the message that withdraws none
+none-written : numberOf (writeMessage 32 [] (replicate 23 0)) ≡ 0
+unfolding writeMessage inOrder digits
+none-written = rw no-routes-fine
 
 -- and their images, at stride 1
 abbrev wholeBits : List BitRoute
@@ -178,4 +187,19 @@ no-call-refuses-all B d =
       segments-build = ([], zeroStores, segments-built B d zeroStores zeros-roomy);
       segments-lookup = (zeroStores, 0, segments-found B d zeroStores zeros-bits (zeros-roomy .first) refl);
       segments-entries = ([], [], 0, λ x m. d .segments-entries [] [] 0 x m .exact .0);
+      message-apply = (
+        nothing,
+        1,
+        [],
+        0,
+        λ o m. D .message-apply nothing 1 [] 0 _ _ _ _ (d .message-apply nothing 1 [] 0 o nothing-bytes m .exact)
+            (apply-refuses 32 refl nothing 1 [] 0 nothing-bytes .exact) .0
+            ∙ nothing-applied,
+      );
+      message-write = (
+        [],
+        replicate 23 0,
+        λ o m. D .message-write [] (replicate 23 0) _ _ _ _ (d .message-write [] (replicate 23 0) o m .exact) (withdrawal-refuses 32 [] (replicate 23 0) .exact) .0
+            ∙ none-written,
+      );
     }

@@ -58,4 +58,6 @@ no-thirteen B d =
       segments-build = λ list lent x c. no .segments-build list lent _ _ (d .segments-build list lent x c .exact);
       segments-lookup = λ s a x bits c. no .segments-lookup s a _ _ (d .segments-lookup s a x bits c .exact);
       segments-entries = λ packed plain entry x c. no .segments-entries _ _ (d .segments-entries packed plain entry x c .exact);
+      message-apply = λ message port rows n o bytes c. no .message-apply message port rows n _ _ (d .message-apply message port rows n o bytes c .exact);
+      message-write = λ list message o c. no .message-write list message _ _ (d .message-write list message o c .exact);
     }

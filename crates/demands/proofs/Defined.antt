@@ -24,6 +24,8 @@ defined-follows = record {
   segments-build = λ list lent x is. is;
   segments-lookup = λ s a x is. is;
   segments-entries = λ packed plain entry x is. is;
+  message-apply = λ message port rows n o is. is;
+  message-write = λ list message o is. is;
 }
 
 defined-ends : Ends defined
@@ -45,6 +47,8 @@ defined-ends = record {
   segments-build = λ list lent. (_, refl);
   segments-lookup = λ s a. (_, refl);
   segments-entries = λ packed plain entry. (_, refl);
+  message-apply = λ message port rows n. (_, refl);
+  message-write = λ list message. (_, refl);
 }
 
 pub defined-meets : DefinedMeets

@@ -69,6 +69,7 @@ use Rattle.demands.proofs.OfLists.{read-refuses, write-refuses, check-r
 use Rattle.demands.proofs.OfTables.{table-check-refuses, lookup-refuses, announce-refuses, withdraw-refuses, build-refuses, save-refuses, table-runs-refuses}
 use Rattle.demands.proofs.OfImages.{building, image-build-refuses, image-lookup-refuses}
 use Rattle.demands.proofs.OfSegments.{segmenting, segments-build-refuses, words-on, entries-stand}
+use Rattle.demands.proofs.OfMessages.{apply-refuses, withdrawal-refuses}
 use Rattle.demands.proofs.Entries.{entries-there, entries-built}
 use Rattle.demands.proofs.Follows.{Follows, exports-follow}
 use Rattle.demands.proofs.Histories.{held-is}
@@ -165,6 +166,9 @@ demand-1 B f = record {
   segments-stand = λ packed plain entry x m.
       subst (λ (y : Reply). entriesStand packed plain entry (result y) (readCount y)) (sym (f .segments-entries packed plain entry x m))
       (entries-stand packed plain entry .exact);
+  message-apply = λ message port rows n o bytes m.
+      laid-whole _ n rows o _ (f .message-apply message port rows n o m) (apply-refuses 32 refl message port rows n bytes);
+  message-write = λ list message o m. laid-whole _ 0 message o _ (f .message-write list message o m) (withdrawal-refuses 32 list message);
 }
 
 -- 32 bits are whole bytes

@@ -15,6 +15,9 @@ use Rattle.demands.specs.Lamp.{Verdict, shows, done, whether, refuse}
 use Rattle.demands.specs.Checks.{routeChecks, eachRoute, listChecks, eachInFile, fileChecks, rowChecks, nodeChecks}
 use Rattle.segment_rules.specs.Build.{Stores}
 use Rattle.demands.specs.SegmentChecks.{portChecks, entryChecks, wordChecks}
+use Rattle.octets.specs.Octets.{prefixSize, lenAt}
+use Rattle.message_rules.specs.Message.{withdrawnAt, announcedAt, withdrawnPart, announcedPart}
+use Rattle.demands.specs.MessageChecks.{eachPrefix, messageChecks}
 use Rattle.demands.specs.Demands.{EachCall}
 use Rattle.demands.specs.Unused.{unused}
 
@@ -72,6 +75,17 @@ module _ (Such : Verdict → Type 0) (shown : (number place : ℕ) → eqb numbe
         check _ _ _ _ refl
         (either _ _ _ (of-port 1 _) (either _ _ _ (check _ _ _ _ refl (check _ _ _ _ refl (of-entry 3 _))) (check _ _ _ _ refl (of-entry 2 _))))
 
+  of-prefixes : (w : ℕ) (part : List ℕ) (from k at : ℕ) (rest : Verdict) → Such rest → Such (eachPrefix w part from k at rest)
+  of-prefixes w part from zero at rest x = x
+  of-prefixes w part from (suc k) at rest x =
+      either _ _ _ (check _ _ _ _ refl (check _ _ _ _ refl (of-prefixes w part from k (at + prefixSize (lenAt part at)) rest x))) x
+
+  of-message : (w : ℕ) (message : List ℕ) (rest : Verdict) → Such rest → Such (messageChecks w message rest)
+  of-message w message rest x =
+      check _ _ _ _ refl (check _ _ _ _ refl (check _ _ _ _ refl (check _ _ _ _ refl (check _ _ _ _ refl (check _ _ _ _ refl
+      (of-prefixes w (withdrawnPart message) withdrawnAt (length (withdrawnPart message)) 0 _
+      (of-prefixes w (announcedPart message) (announcedAt message) (length (announcedPart message)) 0 rest x)))))))
+
   pub each-call : EachCall Such
   each-call = record {
     file-read = λ file list. of-file 32 file _ (λ n. last-check _ _ refl);
@@ -92,4 +106,6 @@ module _ (Such : Verdict → Type 0) (shown : (number place : ℕ) → eqb numbe
     segments-lookup = λ s a. of-words (λ _. 0) s a;
     segments-reads = λ s a. of-words (λ reads. reads) s a;
     segments-entries = accepts;
+    message-apply = λ message port rows n. of-message 32 message _ (check _ _ _ _ refl (check _ _ _ _ refl (last-check _ _ refl)));
+    message-write = λ list message. of-list 32 list _ (last-check _ _ refl);
   }

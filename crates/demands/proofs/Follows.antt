@@ -23,6 +23,8 @@ use Rattle.runs_rules.specs.Listing.{listRuns}
 use Rattle.table_runs.specs.TableRuns.{tableRuns}
 use Rattle.segment_rules.specs.Parts.{partOf}
 use Rattle.segment_rules.specs.Build.{Stores, buildSegments, lookupStores}
+use Rattle.message_rules.specs.Written.{writeMessage}
+use Rattle.message_calls.specs.Apply.{applyInto}
 use Rattle.maftehon.specs.Reply.{Imaged, repliedImage, Segmented, repliedSegments, located}
 use Rattle.demands.specs.Boundary.{Boundary}
 use Rattle.demands.specs.Exports.{LookedBy, LookedAt, exports}
@@ -45,6 +47,8 @@ pub record Follows (B : Boundary) : Type 0 where
   pub segments-build : (list : List ℕ) (lent : Stores) (x : Segmented) → B .segments-build list lent x → x ≡ repliedSegments (buildSegments list lent)
   pub segments-lookup : (s : Stores) (a : ℕ) (x : Reply) → B .segments-lookup s a x → x ≡ looked (lookupStores s a)
   pub segments-entries : (packed plain : List ℕ) (entry : ℕ) (x : Reply) → B .segments-entries packed plain entry x → x ≡ located (partOf (length packed) (length plain) entry)
+  pub message-apply : (message : List ℕ) (port : ℕ) (rows : List ℕ) (n : ℕ) (o : Outcome Reply) → B .message-apply message port rows n o → o ≡ replied (applyInto fiveWords 32 message port rows n)
+  pub message-write : (list message : List ℕ) (o : Outcome Reply) → B .message-write list message o → o ≡ replied (writeMessage 32 list message)
 
 -- a lookup at a constant stride
 at-constant : (k s : ℕ) (nodes ports : List ℕ) (a : ℕ) (x : Reply) → s ≡ k
@@ -79,4 +83,6 @@ exports-follow = record {
   segments-build = λ list lent x m. sym (m .3) ∙ m .0 .meets ∙ (λ j. repliedSegments (buildSegments (m .1 j) (m .2 j)));
   segments-lookup = λ s a x m. sym (m .3) ∙ m .0 .meets ∙ (λ j. looked (lookupStores (m .1 j) (m .2 j)));
   segments-entries = λ packed plain entry x m. sym (m .4) ∙ m .0 .meets ∙ (λ j. located (partOf (length (m .1 j)) (length (m .2 j)) (m .3 j)));
+  message-apply = λ message port rows n o m. sym (m .5) ∙ m .0 .meets ∙ (λ j. replied (applyInto fiveWords 32 (m .1 j) (m .2 j) (m .3 j) (m .4 j)));
+  message-write = λ list message o m. sym (m .3) ∙ m .0 .meets ∙ (λ j. replied (writeMessage 32 (m .1 j) (m .2 j)));
 }

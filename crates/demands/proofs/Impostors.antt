@@ -1,14 +1,17 @@
 -- The five impostors break the demands: each at a history of a call or two, or at a build, that is written out. Assumes nothing.
 use mathlib.Core.Path.{_≡_, refl, sym, ap, subst, _∙_}
 use mathlib.Core.Logic.{_⊎_, inl, inr}
-use mathlib.Core.Bool.{true, false, false≢true}
+use mathlib.Core.Bool.{Bool, true, false, cond, _||_, false≢true}
 use mathlib.Core.List.{List, [], _∷_}
 use Prim.Native.Nat.{ℕ, zero, suc, _+_, _<_, _≤_}
 use native.Mathlib.Omega.{arith}
 use lib.ListN.{replicate}
+use borrow.Author.Tests.{lt-ltb}
 use Rattle.promise.specs.Over.{Outcome}
-use Rattle.lists.proofs.Tests.{lt-or-le}
-use Rattle.bits.specs.Bits.{bits}
+use Rattle.lists.proofs.Tests.{either, lt-or-le}
+use Rattle.bits.specs.Bits.{Bits, bits, same}
+use Rattle.bits.proofs.Bits.{same-refl, same-eq}
+use Rattle.prefix.specs.Prefixes.{prefix}
 use Rattle.trie.specs.Routes.{Routes}
 use Rattle.trie.specs.Scan.{longest, plainScan}
 use Rattle.refusals.specs.Refusals.{found as answered}
@@ -23,6 +26,13 @@ use Rattle.table_rules.specs.Holds.{GoodFor}
 use Rattle.table_rules.proofs.Good.{good-unique}
 use Rattle.table_update.specs.Calls.{buildInto}
 use Rattle.table_update.specs.History.{announcing, withdrawing, Table}
+use Rattle.message_rules.specs.Message.{withdrawnIn, announcedIn}
+use Rattle.message_calls.specs.Once.{among, Differ}
+use Rattle.message_calls.specs.Named.{hasBits, finalSet, finalCount, Size}
+use Rattle.message_calls.specs.History.{single, message}
+use Rattle.message_calls.proofs.Once.{no-more}
+use Rattle.message_calls.proofs.Sized.{good-size, size-le}
+use Rattle.message_calls.proofs.Theorems.{final-sized}
 use Rattle.image_rules.specs.Image.{passed}
 use Rattle.image_build.specs.Build.{Left, listRoutes, buildImage}
 use Rattle.segment_rules.specs.Theorems.{readsOf}
@@ -31,14 +41,17 @@ use Rattle.maftehon.specs.Reply.{Imaged, Segmented}
 use Rattle.demands.specs.Boundary.{Boundary, result, readCount, Ends}
 use Rattle.demands.specs.History.{Step, May, left, emptyTable, heldBy}
 use Rattle.demands.specs.Demands.{Demands}
-use Rattle.demands.specs.Checks.{announceChecks, withdrawChecks, NotHeld}
-use Rattle.demands.specs.Impostors.{IgnoresAnnouncements, IgnoresWithdrawals, FixedPort, FixedPortOfImage, FixedPortOfSegments, ImpostorsStopped}
+use Rattle.demands.specs.Checks.{NoPort, announceChecks, withdrawChecks, NotHeld}
+use Rattle.demands.specs.MessageChecks.{TooMany}
+use Rattle.demands.specs.Impostors.{AppliesAnnouncementsAlone, StopsAtTheFirst, IgnoresAnnouncements, IgnoresWithdrawals, FixedPort, FixedPortOfImage, FixedPortOfSegments, ImpostorsStopped}
 use Rattle.demands.proofs.Decided.{demand-1-decides}
 use Rattle.demands.proofs.OfTables.{build-refuses}
 use Rattle.demands.proofs.OfImages.{image-build-refuses}
 use Rattle.demands.proofs.OfSegments.{segments-build-refuses}
+use Rattle.demands.proofs.OfMessages.{apply-refuses}
+use Rattle.demands.proofs.Messages.{wholeWithdrawn, whole-bytes, whole-checked, whole-withdraws, whole-announces, twoAnnounced, two-bytes, two-withdraws, two-announces, two-applied, checked-through}
 use Rattle.demands.proofs.Roomy.{zeroStores, zeros-roomy}
-use Rattle.demands.proofs.Accepted.{wholeSpace, no-routes-built, whole-space-built, no-routes-imaged, whole-space-imaged, no-routes-segmented, whole-space-segmented}
+use Rattle.demands.proofs.Accepted.{wholeSpace, no-routes-built, whole-space-built, no-routes-imaged, whole-space-imaged, no-routes-segmented, whole-space-segmented, no-call-refuses-all}
 
 -- the whole space to a port
 abbrev whole : ℕ → Route
@@ -96,9 +109,9 @@ two-sets rows n S T x y one none =
 module _ (B : Boundary) (ends : Ends B) (d : Demands B) where
   -- From five zero words, the whole space is announced to port 1.
   abbrev first : Step
-  first = record { call = announcing (whole 1); outcome = ends .table-announce zeros 0 (whole 1) .0 }
+  first = record { call = single (announcing (whole 1)); outcome = ends .table-announce zeros 0 (whole 1) .0 }
 
-  first-may : May B (emptyTable zeros) (announcing (whole 1)) (first .outcome)
+  first-may : May B (emptyTable zeros) (single (announcing (whole 1))) (first .outcome)
   first-may = ends .table-announce zeros 0 (whole 1) .1
 
   empty-good : Good (emptyTable zeros) (heldBy [])
@@ -124,9 +137,9 @@ module _ (B : Boundary) (ends : Ends B) (d : Demands B) where
 
   -- Port 2 is announced for it.
   abbrev again : Step
-  again = record { call = announcing (whole 2); outcome = ends .table-announce (left first .words) (left first .count) (whole 2) .0 }
+  again = record { call = single (announcing (whole 2)); outcome = ends .table-announce (left first .words) (left first .count) (whole 2) .0 }
 
-  again-may : May B (left first) (announcing (whole 2)) (again .outcome)
+  again-may : May B (left first) (single (announcing (whole 2))) (again .outcome)
   again-may = ends .table-announce (left first .words) (left first .count) (whole 2) .1
 
   again-accepted : again .outcome .answer .number ≡ 0
@@ -145,9 +158,9 @@ module _ (B : Boundary) (ends : Ends B) (d : Demands B) where
 
   -- Or it is withdrawn.
   abbrev gone : Step
-  gone = record { call = withdrawing 0 0; outcome = ends .table-withdraw (left first .words) (left first .count) 0 0 .0 }
+  gone = record { call = single (withdrawing 0 0); outcome = ends .table-withdraw (left first .words) (left first .count) 0 0 .0 }
 
-  gone-may : May B (left first) (withdrawing 0 0) (gone .outcome)
+  gone-may : May B (left first) (single (withdrawing 0 0)) (gone .outcome)
   gone-may = ends .table-withdraw (left first .words) (left first .count) 0 0 .1
 
   gone-accepted : gone .outcome .answer .number ≡ 0
@@ -262,6 +275,125 @@ whole-space-scanned : scanOf 32 (routeAt wholeSpace) 1 0 ≡ 1
 unfolding listOf longest plainScan
 whole-space-scanned = refl
 
+-- the whole space and its left half are two
+two-differ : Differ same ([] ∷ (false ∷ []) ∷ [])
+unfolding Differ among
+two-differ = (refl, (refl, tt))
+
+two-of : (q : Bits) → among same q ([] ∷ (false ∷ []) ∷ []) ≡ true → (q ≡ []) ⊎ (q ≡ false ∷ [])
+unfolding among
+two-of q h = by (either (same q []) (same q (false ∷ []) || false) h)
+  where
+    last : (same q (false ∷ []) ≡ true) ⊎ (false ≡ true) → (q ≡ []) ⊎ (q ≡ false ∷ [])
+    last (inl e) = inr (same-eq q (false ∷ []) e)
+    last (inr e) = absurd (false≢true e)
+
+    by : (same q [] ≡ true) ⊎ ((same q (false ∷ []) || false) ≡ true) → (q ≡ []) ⊎ (q ≡ false ∷ [])
+    by (inl e) = inl (same-eq q [] e)
+    by (inr e) = last (either (same q (false ∷ [])) false e)
+
+-- messages
+
+module _ (B : Boundary) (ends : Ends B) (d : Demands B) where
+  -- A message withdraws the whole space after it was announced.
+  abbrev after : Table
+  after = left (first B ends d)
+
+  abbrev withdrawn : Step
+  withdrawn = record { call = message wholeWithdrawn 1; outcome = ends .message-apply wholeWithdrawn 1 (after .words) (after .count) .0 }
+
+  withdrawn-may : May B after (message wholeWithdrawn 1) (withdrawn .outcome)
+  withdrawn-may = ends .message-apply wholeWithdrawn 1 (after .words) (after .count) .1
+
+  abbrev onlyFirst : Routes
+  onlyFirst = heldBy (first B ends d ∷ [])
+
+  -- what is left is among what was held
+  fewer : (q : Bits) → 0 < finalSet 32 1 (withdrawnIn 32 wholeWithdrawn) (announcedIn 32 wholeWithdrawn) onlyFirst q → 0 < onlyFirst q
+  unfolding among
+  fewer q h = by (hasBits 32 q (prefix 0 0 ∷ [])) (rw (whole-withdraws, whole-announces) at h)
+    where
+      by : (b : Bool) → 0 < cond b 0 (onlyFirst q) → 0 < onlyFirst q
+      by true k = absurd (omega (arith, k))
+      by false k = k
+
+  withdrawn-accepted : withdrawn .outcome .answer .number ≡ 0
+  withdrawn-accepted =
+      demand-1-decides .message-apply wholeWithdrawn 1 (after .words) (after .count) _ _ 0 0
+      (d .one .message-apply wholeWithdrawn 1 (after .words) (after .count) (withdrawn .outcome) whole-bytes withdrawn-may .exact)
+      (checked-through wholeWithdrawn _ whole-checked (inr (ported, inr (λ wrong. wrong (onlyFirst, good), inr (many, (refl, refl))))))
+      .0
+    where
+      good : Good after onlyFirst
+      good = first-good B ends d
+
+      ported : NoPort 1 → ⊥
+      ported (inl e) = omega (arith, e)
+      ported (inr h) = omega (arith, h)
+
+      many : TooMany 32 wholeWithdrawn 1 (after .words) (after .count) → ⊥
+      many wrong =
+          let T : Routes = finalSet 32 1 (withdrawnIn 32 wholeWithdrawn) (announcedIn 32 wholeWithdrawn) onlyFirst in
+          let k : ℕ = finalCount 32 (rowAt (after .words)) (after .count) (withdrawnIn 32 wholeWithdrawn) (announcedIn 32 wholeWithdrawn) in
+          let size : Size T k = final-sized 32 refl (capacity (after .words)) (rowAt (after .words)) (after .count) onlyFirst good wholeWithdrawn whole-bytes 1 (omega arith) in
+          omega (
+            arith,
+            wrong onlyFirst good k size,
+            good .few,
+            size-le T onlyFirst k (after .count) size (good-size 32 (capacity (after .words)) (rowAt (after .words)) (after .count) onlyFirst good) fewer,
+          )
+
+  withdrawn-good : Good (left withdrawn) (heldBy (first B ends d ∷ withdrawn ∷ []))
+  withdrawn-good = d .three .held zeros (first B ends d ∷ withdrawn ∷ []) (omega arith, first-may B ends d, (whole-bytes, withdrawn-may, tt))
+
+  withdrawn-held : heldBy (first B ends d ∷ withdrawn ∷ []) [] ≡ 0
+  unfolding among
+  withdrawn-held = rw (withdrawn-accepted, whole-withdraws, whole-announces)
+
+  not-alone : AppliesAnnouncementsAlone B → ⊥
+  not-alone alone =
+      let kept = alone wholeWithdrawn 1 (after .words) (after .count) (withdrawn .outcome) whole-announces withdrawn-may withdrawn-accepted in
+      two-sets (after .words) (after .count) onlyFirst (heldBy (first B ends d ∷ withdrawn ∷ [])) (first-good B ends d)
+      (subst (λ (n : ℕ). GoodFor 32 (capacity (after .words)) (rowAt (after .words)) n (heldBy (first B ends d ∷ withdrawn ∷ []))) (kept .1)
+      (subst (λ (rows : List ℕ). GoodFor 32 (capacity rows) (rowAt rows) (left withdrawn .count) (heldBy (first B ends d ∷ withdrawn ∷ []))) (kept .0) withdrawn-good))
+      (first-held B ends d) withdrawn-held
+
+  -- A message announces the whole space and its left half to an empty table.
+  abbrev two : Step
+  two = record { call = message twoAnnounced 1; outcome = ends .message-apply twoAnnounced 1 (replicate 10 0) 0 .0 }
+
+  two-may : May B (emptyTable (replicate 10 0)) (message twoAnnounced 1) (two .outcome)
+  two-may = ends .message-apply twoAnnounced 1 (replicate 10 0) 0 .1
+
+  two-accepted : two .outcome .answer .number ≡ 0
+  two-accepted =
+      demand-1-decides .message-apply twoAnnounced 1 (replicate 10 0) 0 _ _ _ _
+      (d .one .message-apply twoAnnounced 1 (replicate 10 0) 0 (two .outcome) two-bytes two-may .exact) (apply-refuses 32 refl twoAnnounced 1 (replicate 10 0) 0 two-bytes .exact) .0
+      ∙ two-applied
+
+  two-good : Good (left two) (heldBy (two ∷ []))
+  two-good = d .three .held (replicate 10 0) (two ∷ []) (two-bytes, two-may, tt)
+
+  two-held : (heldBy (two ∷ []) [] ≡ 1) × (heldBy (two ∷ []) (false ∷ []) ≡ 1)
+  unfolding among bits
+  two-held = (rw (two-accepted, two-withdraws, two-announces), rw (two-accepted, two-withdraws, two-announces))
+
+  not-first : StopsAtTheFirst B → ⊥
+  not-first stops =
+      let s : Size (heldBy (two ∷ [])) (left two .count) =
+      good-size 32 (capacity (left two .words)) (rowAt (left two .words)) (left two .count) (heldBy (two ∷ [])) two-good in
+      omega (arith, stops twoAnnounced 1 (replicate 10 0) (two .outcome) two-may two-accepted, s .size, no-more same same-refl same-eq ([] ∷ (false ∷ []) ∷ []) (s .list) differ (among-both s))
+    where
+      differ : Differ same ([] ∷ (false ∷ []) ∷ [])
+      differ = two-differ
+
+      held-either : (q : Bits) → (q ≡ []) ⊎ (q ≡ false ∷ []) → 0 < heldBy (two ∷ []) q
+      held-either q (inl e) = rw e (omega (arith, two-held .0))
+      held-either q (inr e) = rw e (omega (arith, two-held .1))
+
+      among-both : (s : Size (heldBy (two ∷ [])) (left two .count)) (q : Bits) → among same q ([] ∷ (false ∷ []) ∷ []) ≡ true → among same q (s .list) ≡ true
+      among-both s q h = s .just q ∙ lt-ltb 0 (heldBy (two ∷ []) q) (held-either q (two-of q h))
+
 pub impostors-stopped : ImpostorsStopped
 impostors-stopped = record {
   refuses-announcements = λ B ends d refuses. refuses zeros 0 (whole 1) (first B ends d .outcome) (first-may B ends d) (first-accepted B ends d);
@@ -308,4 +440,10 @@ impostors-stopped = record {
   invented-reads = λ B ends d x.
       x .invented
       (ap readCount (d .two .segments (x .list) (x .lent) (x .built) (x .address) (x .reply) (x .words) (x .fits) (x .builds) (x .done) (x .answers)));
+  refuses-messages = λ B ends d refuses.
+      let x = no-call-refuses-all B (d .one) .message-apply in
+      let o = ends .message-apply (x .0) (x .1) (x .2) (x .3) in
+      refuses (x .0) (x .1) (x .2) (x .3) (o .0) (o .1) (x .4 (o .0) (o .1));
+  announcements-alone = not-alone;
+  first-prefix-only = not-first;
 }

@@ -6,6 +6,8 @@ pub mod OfLists
 pub mod OfTables
 pub mod OfImages
 pub mod OfSegments
+pub mod OfMessages
+pub mod Messages
 pub mod Entries
 pub mod EachCall
 pub mod Decided

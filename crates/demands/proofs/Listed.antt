@@ -13,7 +13,8 @@ use Rattle.routes.specs.Routes.{routeAt, routeCount}
 use Rattle.routes.specs.Check.{isPort, above, faultAt, firstFault, routesCheck, listCheck}
 use Rattle.routes.specs.declared.Route.{Route}
 use Rattle.refusals.specs.declared.Answer.{Answer}
-use Rattle.file_rules.specs.File.{version, headSize, statedSize, sizeFor, lenAt, readAt, placeOf, fileRoute}
+use Rattle.octets.specs.Octets.{lenAt}
+use Rattle.file_rules.specs.File.{version, headSize, statedSize, sizeFor, readAt, placeOf, fileRoute}
 use Rattle.file_rules.specs.Check.{headFault, fileFault, checkFrom, fileCheck}
 use Rattle.demands.specs.Lamp.{Verdict, shows}
 use Rattle.demands.specs.Checks.{NoPort, NotAbove, eachRoute, listChecks, eachInFile, fileChecks}

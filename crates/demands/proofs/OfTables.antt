@@ -50,7 +50,7 @@ tells-good w rows n =
 
 -- "11", and then what follows, in any answer
 module _ (v : View) (w : ℕ) (rows : List ℕ) (n : ℕ) (rest : Verdict) where
-  on-order-then : (answer : Bool → v .Seen) → (GoodOrder w (capacity rows) (rowAt rows) n → On v rest (answer true))
+  pub on-order-then : (answer : Bool → v .Seen) → (GoodOrder w (capacity rows) (rowAt rows) n → On v rest (answer true))
       → On v (shows notInOrder 0) (answer false) → On v (orderChecks w rows n rest) (answer (isGood w (capacity rows) (rowAt rows) n))
   on-order-then answer next shown =
       on-test-then v (isGood w (capacity rows) (rowAt rows) n) _ (tells-good w rows n) notInOrder 0 rest answer
@@ -94,7 +94,7 @@ build-refuses w list rows =
     (λ b. cond b done-with (outcome (refused noRoom 0) rows)) (on-accepted 0 rows n (builtFrom fiveWords w (routeAt list) n 0 rows)) (on-refused rows noRoom 0))
 
 -- a refused update leaves the count and the rows
-kept-on : (rows : List ℕ) (n m : ℕ) → On (writing n rows) (shows m 0) (leaves m n rows)
+pub kept-on : (rows : List ℕ) (n m : ℕ) → On (writing n rows) (shows m 0) (leaves m n rows)
 kept-on rows n m = record { exact = (refl, refl); kept = λ _. (refl, refl) }
 
 -- in a table in good order, the search for a prefix tells whether it is held

@@ -28,6 +28,8 @@ pub record Boundary : Type 1 where
   pub segments-build : (list : List ℕ) (lent : Stores) → Segmented → Type 0
   pub segments-lookup : (stores : Stores) (address : ℕ) → Reply → Type 0
   pub segments-entries : (packed plain : List ℕ) (entry : ℕ) → Reply → Type 0
+  pub message-apply : (message : List ℕ) (port : ℕ) (rows : List ℕ) (n : ℕ) → Outcome Reply → Type 0
+  pub message-write : (list message : List ℕ) → Outcome Reply → Type 0
 
 -- the words of `answer`: the place; then the count, n, port or offset; then the rows, nodes or words read, or how many entries there are
 abbrev pub place : Reply → ℕ
@@ -58,3 +60,5 @@ pub record Ends (B : Boundary) : Type 0 where
   pub segments-build : (list : List ℕ) (lent : Stores) → (x : Segmented) × B .segments-build list lent x
   pub segments-lookup : (s : Stores) (a : ℕ) → (x : Reply) × B .segments-lookup s a x
   pub segments-entries : (packed plain : List ℕ) (entry : ℕ) → (x : Reply) × B .segments-entries packed plain entry x
+  pub message-apply : (message : List ℕ) (port : ℕ) (rows : List ℕ) (n : ℕ) → (o : Outcome Reply) × B .message-apply message port rows n o
+  pub message-write : (list message : List ℕ) → (o : Outcome Reply) × B .message-write list message o

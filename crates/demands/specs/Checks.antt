@@ -13,7 +13,8 @@ use Rattle.refusals.specs.Refusals.{shortFile, wrongVersion, wrongSize, longPre
 use Rattle.routes.specs.Bounds.{mostRoutes, lastPort}
 use Rattle.routes.specs.Routes.{routeAt, routeCount}
 use Rattle.routes.specs.declared.Route.{Route}
-use Rattle.file_rules.specs.File.{version, headSize, statedSize, sizeFor, lenAt, readAt, placeOf, fileRoute, fileOf}
+use Rattle.octets.specs.Octets.{lenAt}
+use Rattle.file_rules.specs.File.{version, headSize, statedSize, sizeFor, readAt, placeOf, fileRoute, fileOf}
 use Rattle.table_rules.specs.Rows.{Mem, child}
 use Rattle.table_rows.specs.Words.{capacity, rowAt}
 use Rattle.table_rules.specs.Holds.{GoodFor, GoodOrder}

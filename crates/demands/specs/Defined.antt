@@ -17,6 +17,8 @@ use Rattle.runs_rules.specs.Listing.{listRuns}
 use Rattle.table_runs.specs.TableRuns.{tableRuns}
 use Rattle.segment_rules.specs.Build.{buildSegments, lookupStores}
 use Rattle.segment_rules.specs.Parts.{partOf}
+use Rattle.message_rules.specs.Written.{writeMessage}
+use Rattle.message_calls.specs.Apply.{applyInto}
 use Rattle.maftehon.specs.Reply.{repliedImage, repliedSegments, located}
 use Rattle.demands.specs.Boundary.{Boundary, Ends}
 use Rattle.demands.specs.Demands.{Demands}
@@ -40,6 +42,8 @@ defined = record {
   segments-build = λ list lent x. x ≡ repliedSegments (buildSegments list lent);
   segments-lookup = λ s a x. x ≡ looked (lookupStores s a);
   segments-entries = λ packed plain entry x. x ≡ located (partOf (length packed) (length plain) entry);
+  message-apply = λ message port rows n o. o ≡ replied (applyInto fiveWords 32 message port rows n);
+  message-write = λ list message o. o ≡ replied (writeMessage 32 list message);
 }
 
 -- the impostors are stopped by something that can be met

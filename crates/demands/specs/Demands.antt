@@ -15,7 +15,7 @@ use Rattle.refusals.specs.Reply.{Reply, counted, looked, replied}
 use Rattle.routes.specs.Routes.{routeAt, routeCount, wordsOf, Words}
 use Rattle.routes.specs.Scan.{scanOf}
 use Rattle.routes.specs.declared.Route.{Route}
-use Rattle.file_rules.specs.Bytes.{Bytes}
+use Rattle.octets.specs.Bytes.{Bytes}
 use Rattle.file_rules.specs.Cleared.{clearedFile, SpareZero}
 use Rattle.table_rows.specs.Words.{capacity, rowAt}
 use Rattle.table_rules.specs.Holds.{GoodFor}
@@ -34,6 +34,7 @@ use Rattle.maftehon.specs.Reply.{Imaged, Segmented}
 use Rattle.demands.specs.Lamp.{Verdict, done, Lamp, Decides}
 use Rattle.demands.specs.Checks.{listChecks, readChecks, writeChecks, orderChecks, announceChecks, withdrawChecks, buildChecks, saveChecks, lookupChecks, imageChecks, imageLookupChecks, listRunsChecks, tableRunsChecks}
 use Rattle.demands.specs.SegmentChecks.{segmentChecks, SixteenBits, segmentLookupChecks, segmentReads, entriesStand}
+use Rattle.demands.specs.MessageChecks.{applyChecks, withdrawalChecks}
 use Rattle.demands.specs.Boundary.{Boundary, place, result, readCount}
 use Rattle.demands.specs.History.{Step, Happened, emptyTable, atEnd, heldBy}
 
@@ -108,6 +109,12 @@ pub record Demand1 (B : Boundary) : Type 0 where
   pub segments-stand :
       (packed plain : List ℕ) (entry : ℕ) (x : Reply) → B .segments-entries packed plain entry x
       → entriesStand packed plain entry (result x) (readCount x)
+  pub message-apply :
+      (message : List ℕ) (port : ℕ) (rows : List ℕ) (n : ℕ) (o : Outcome Reply) → Bytes message → B .message-apply message port rows n o
+      → RefusesWhole (applyChecks 32 message port rows n) (n ∷ []) rows o
+  pub message-write :
+      (list message : List ℕ) (o : Outcome Reply) → B .message-write list message o
+      → RefusesWhole (withdrawalChecks 32 list message) (0 ∷ []) message o
 
 -- the checks of every call are such
 pub record EachCall (Such : Verdict → Type 0) : Type 0 where
@@ -128,6 +135,8 @@ pub record EachCall (Such : Verdict → Type 0) : Type 0 where
   pub segments-lookup : (s : Stores) (a : ℕ) → Such (segmentLookupChecks s a)
   pub segments-reads : (s : Stores) (a : ℕ) → Such (segmentReads s a)
   pub segments-entries : Such done
+  pub message-apply : (message : List ℕ) (port : ℕ) (rows : List ℕ) (n : ℕ) → Such (applyChecks 32 message port rows n)
+  pub message-write : (list message : List ℕ) → Such (withdrawalChecks 32 list message)
 
 -- "exactly in the listed case": the checks of a call leave no choice, so that no other number or place would do
 abbrev pub Demand1Decides : Type 0

@@ -51,6 +51,10 @@ use Rattle.maftehon.proofs.segments.mft_segments_lookup.Kinds as segments-looku
 use Rattle.maftehon.proofs.segments.mft_segments_lookup.Reads as segments-lookup
 use Rattle.maftehon.proofs.segments.mft_segments_entries.Kinds as segments-entries-kinds
 use Rattle.maftehon.proofs.segments.mft_segments_entries.Reads as segments-entries
+use Rattle.maftehon.proofs.messages.mft_message_apply.Kinds as message-apply-kinds
+use Rattle.maftehon.proofs.messages.mft_message_apply.Reads as message-apply
+use Rattle.maftehon.proofs.messages.mft_message_write.Kinds as message-write-kinds
+use Rattle.maftehon.proofs.messages.mft_message_write.Reads as message-write
 
 -- a lookup at a constant stride, by the contract of an export that has no other argument
 abbrev pub LookedAt : Out 3 image-lookup-1-kinds.ps image-lookup-1-kinds.r → (nodes ports : List ℕ) → ℕ → Reply → Type 0
@@ -140,4 +144,12 @@ exports = record {
       (c : Made 3 segments-entries-kinds.ps segments-entries-kinds.r segments-entries.Post)
       × (now (c .args .0) ≡ packed) × (now (c .args .1 .0) ≡ plain) × (c .args .1 .1 .0 ≡ entry)
       × (reply (c .result) (now (c .exit .1 .1 .1 .0)) ≡ x);
+  message-apply = λ message port rows n o.
+      (c : Made 3 message-apply-kinds.ps message-apply-kinds.r message-apply.Post)
+      × (now (c .args .0) ≡ message) × (c .args .1 .0 ≡ port) × (now (c .args .1 .1 .0) ≡ rows) × (c .args .1 .1 .1 .0 ≡ n)
+      × (outcome (reply (c .result) (now (c .exit .1 .1 .1 .1 .0))) (now (c .exit .1 .1 .0)) ≡ o);
+  message-write = λ list message o.
+      (c : Made 3 message-write-kinds.ps message-write-kinds.r message-write.Post)
+      × (now (c .args .0) ≡ list) × (now (c .args .1 .0) ≡ message)
+      × (outcome (reply (c .result) (now (c .exit .1 .1 .0))) (now (c .exit .1 .0)) ≡ o);
 }

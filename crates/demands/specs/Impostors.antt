@@ -2,7 +2,7 @@
 -- known of the boundary; what is accepted is what its own calls return. Assumes nothing.
 use mathlib.Core.Path.{_≡_}
 use mathlib.Core.List.{List, []}
-use Prim.Native.Nat.{ℕ, _+_, _/_, _^_, _<_}
+use Prim.Native.Nat.{ℕ, _+_, _/_, _^_, _≤_, _<_}
 use Rattle.promise.specs.Over.{Outcome}
 use Rattle.bits.specs.Bits.{bits}
 use Rattle.trie.specs.Trie.{Trie, IsTrie, reads}
@@ -14,6 +14,7 @@ use Rattle.image_rules.specs.Image.{passed}
 use Rattle.image_build.specs.Build.{listRoutes}
 use Rattle.segment_rules.specs.Theorems.{readsOf}
 use Rattle.segment_rules.specs.Build.{Stores}
+use Rattle.message_rules.specs.Message.{announcedIn}
 use Rattle.maftehon.specs.Reply.{Imaged, Segmented}
 use Rattle.demands.specs.Boundary.{Boundary, result, readCount, Ends}
 use Rattle.demands.specs.History.{Step, Happened, emptyTable, atEnd, heldBy}
@@ -97,6 +98,24 @@ pub record InventsNodes (B : Boundary) : Type 0 where
   pub answers : B .image-lookup stride (built .nodes) (built .ports) address reply
   pub invented : readCount reply ≡ passed (listRoutes 32 list) stride (32 / stride) [] (bits 32 address) + 1 → ⊥
 
+-- of messages: one refuses them all, one applies the announcements alone, and one stops at the first prefix of a part
+abbrev pub RefusesMessages : Boundary → Type 0
+RefusesMessages B =
+    (message : List ℕ) (port : ℕ) (rows : List ℕ) (n : ℕ) (o : Outcome Reply) → B .message-apply message port rows n o → o .answer .number ≡ 0
+    → ⊥
+
+-- one that announces nothing leaves the rows and n as they were
+abbrev pub AppliesAnnouncementsAlone : Boundary → Type 0
+AppliesAnnouncementsAlone B =
+    (message : List ℕ) (port : ℕ) (rows : List ℕ) (n : ℕ) (o : Outcome Reply) → announcedIn 32 message ≡ []
+    → B .message-apply message port rows n o → o .answer .number ≡ 0 → (o .lent ≡ rows) × (result (o .answer) ≡ n)
+
+-- in an empty table none leaves more than one route
+abbrev pub StopsAtTheFirst : Boundary → Type 0
+StopsAtTheFirst B =
+    (message : List ℕ) (port : ℕ) (rows : List ℕ) (o : Outcome Reply) → B .message-apply message port rows 0 o → o .answer .number ≡ 0
+    → result (o .answer) ≤ 1
+
 -- or the words read in segment tables: a number that is not one for the first table, two for a packed segment or one for a plain one, and
 -- one for a last block
 pub record InventsReads (B : Boundary) : Type 0 where
@@ -126,6 +145,9 @@ pub record ImpostorsStopped : Type 1 where
   pub invented-rows : Stopped InventsRows
   pub invented-nodes : Stopped InventsNodes
   pub invented-reads : Stopped InventsReads
+  pub refuses-messages : Stopped RefusesMessages
+  pub announcements-alone : Stopped AppliesAnnouncementsAlone
+  pub first-prefix-only : Stopped StopsAtTheFirst
 
 -- "the table's exactly when stops it": by demand 1, each of the other calls is handed something that it may not refuse
 pub record EachAccepts (B : Boundary) : Type 0 where
@@ -149,6 +171,11 @@ pub record EachAccepts (B : Boundary) : Type 0 where
   pub segments-lookup : (s : Stores) × (a : ℕ) × ((x : Reply) → B .segments-lookup s a x → x .number ≡ 0)
   pub segments-entries :
       (packed : List ℕ) × (plain : List ℕ) × (entry : ℕ) × ((x : Reply) → B .segments-entries packed plain entry x → x .number ≡ 0)
+  pub message-apply :
+      (message : List ℕ) × (port : ℕ) × (rows : List ℕ) × (n : ℕ)
+      × ((o : Outcome Reply) → B .message-apply message port rows n o → o .answer .number ≡ 0)
+  pub message-write :
+      (list : List ℕ) × (message : List ℕ) × ((o : Outcome Reply) → B .message-write list message o → o .answer .number ≡ 0)
 
 abbrev pub NoCallRefusesAll : Type 1
 NoCallRefusesAll = (B : Boundary) → Demand1 B → EachAccepts B

@@ -2,6 +2,7 @@
 pub mod Lamp
 pub mod Checks
 pub mod SegmentChecks
+pub mod MessageChecks
 pub mod Boundary
 pub mod Exports
 pub mod History

@@ -5,6 +5,7 @@ use Prim.Native.Nat.{ℕ, _^_, _<_}
 use Rattle.promise.specs.Over.{Outcome}
 use Rattle.refusals.specs.Reply.{Reply}
 use Rattle.routes.specs.declared.Route.{Route}
+use Rattle.octets.specs.Bytes.{Bytes}
 use Rattle.segment_rules.specs.Build.{Stores}
 use Rattle.maftehon.specs.Reply.{Imaged, Segmented}
 use Rattle.demands.specs.Boundary.{Boundary}
@@ -44,6 +45,10 @@ pub record NeverAnswers (B : Boundary) (number : ℕ) : Type 0 where
       (s : Stores) (a : ℕ) (x : Reply) → SixteenBits s → B .segments-lookup s a x → x .number ≡ number → ⊥
   pub segments-entries :
       (packed plain : List ℕ) (entry : ℕ) (x : Reply) → B .segments-entries packed plain entry x → x .number ≡ number → ⊥
+  pub message-apply :
+      (message : List ℕ) (port : ℕ) (rows : List ℕ) (n : ℕ) (o : Outcome Reply) → Bytes message → B .message-apply message port rows n o
+      → o .answer .number ≡ number → ⊥
+  pub message-write : (list message : List ℕ) (o : Outcome Reply) → B .message-write list message o → o .answer .number ≡ number → ⊥
 
 -- 13 is given by none of the calls, the two listings among them
 abbrev pub NoThirteen : Type 1

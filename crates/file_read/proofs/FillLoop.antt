@@ -8,7 +8,8 @@ use Rattle.promise.specs.Over.{over, storeThree}
 use Rattle.promise.proofs.Over.{over-three}
 use Rattle.routes.specs.Routes.{routeWords, storeRoute, listOfRoutes}
 use Rattle.routes.specs.declared.Route.{Route}
-use Rattle.file_rules.specs.File.{lenAt, readAt, placeOf, fileRoute, sizeFor}
+use Rattle.octets.specs.Octets.{lenAt}
+use Rattle.file_rules.specs.File.{readAt, placeOf, fileRoute, sizeFor}
 use Rattle.lists.specs.Numbered.{inOrder}
 use Rattle.file_rules.specs.Check.{Entire}
 use Rattle.lists.proofs.InOrder.{in-order-more}

@@ -6,7 +6,8 @@ use lib.ListN.{length, getD}
 use borrow.Author.Tests.{lt-ltb, le-ltb, le-leb, lt-leb, eq-eqb, ne-eqb}
 use Rattle.refusals.specs.Refusals.{shortFile, wrongVersion, wrongSize, longPrefix, tooManyRoutes}
 use Rattle.routes.specs.Bounds.{mostRoutes}
-use Rattle.file_rules.specs.File.{version, headSize, statedSize, sizeFor, lenAt}
+use Rattle.octets.specs.Octets.{lenAt}
+use Rattle.file_rules.specs.File.{version, headSize, statedSize, sizeFor}
 use Rattle.file_rules.specs.Check.{headFault, frameFault}
 
 -- 8, 4, 3 (cut): each after those before it passed

@@ -1,5 +1,4 @@
 -- Laws of the reader.
-pub mod Numbers
 pub mod Unique
 pub mod Steps
 pub mod FillLoop

@@ -2,15 +2,18 @@
 use mathlib.Core.Path.{_≡_, sym, ap, ap₂, _∙_}
 use mathlib.Core.Bool.{Bool, _||_}
 use mathlib.Core.List.{List}
-use Prim.Native.Nat.{ℕ, _+_}
+use Prim.Native.Nat.{ℕ, _+_, _≤_}
+use native.Mathlib.Omega.{arith}
 use lib.Dec.{eqb}
+use lib.ListN.{length}
 use borrow.Author.Tests.{ne-eqb}
-use Rattle.bits.specs.Prefix.{first, precedes}
+use Rattle.bits.specs.Prefix.{precedes}
 use Rattle.refusals.specs.Refusals.{refused}
 use Rattle.routes.specs.Routes.{route}
 use Rattle.refusals.specs.declared.Answer.{Answer}
 use Rattle.routes.proofs.Faults.{chain-fault, chain-rest}
-use Rattle.file_rules.specs.File.{prefixBytes, lenAt, valueFrom, portFrom, cleared, readAt, sizeFor}
+use Rattle.octets.specs.Octets.{prefixBytes, prefixSize, lenAt, prefixAt}
+use Rattle.file_rules.specs.File.{portFrom, readAt, sizeFor}
 use Rattle.file_rules.specs.Check.{frameFault, contentFault, Entire}
 use Rattle.file_read.specs.Step.{faultAfter, cursorAfter, stepAt}
 use Rattle.file_read.specs.declared.step.Cursor.{Cursor}
@@ -20,13 +23,18 @@ use Rattle.file_rules.proofs.Sound.{frame-fault-rest, frame-none}
 use Rattle.prefix.specs.Prefixes.{prefix}
 use Rattle.prefix.specs.declared.Prefix.{Prefix}
 
-pub read-is : (w : ℕ) (file : List ℕ) (at len k value port : ℕ)
-    → len ≡ lenAt file at → k ≡ prefixBytes len → value ≡ first w (valueFrom w file (at + 1) len) len → port ≡ portFrom file (at + 1 + k)
-    → route value len port ≡ readAt w file at
-unfolding readAt
-read-is w file at len k value port len-is k-is value-is port-is =
-    ap₂ (λ (v p : ℕ). route v len p) value-is (port-is ∙ ap (λ (j : ℕ). portFrom file (at + 1 + j)) k-is)
-    ∙ ap (λ (l : ℕ). cleared w (route (valueFrom w file (at + 1) l) l (portFrom file (at + 1 + prefixBytes l)))) len-is
+-- the prefix of a whole route, and how many bytes hold it
+module _ (w : ℕ) (file : List ℕ) (at : ℕ) (p : Prefix) (k : ℕ) (p-is : p ≡ prefixAt w file at) (k-is : k ≡ prefixBytes (p .len)) where
+  size-is : at + 1 + k ≡ at + prefixSize (lenAt file at)
+  size-is = omega (arith, k-is ∙ ap (λ (q : Prefix). prefixBytes (q .len)) p-is)
+
+  pub port-fits : Entire w file at → at + 1 + k + 2 ≤ length file
+  port-fits entire = omega (arith, size-is, entire .uncut)
+
+  pub read-is : (port : ℕ) → port ≡ portFrom file (at + 1 + k) → route (p .value) (p .len) port ≡ readAt w file at
+  unfolding readAt
+  read-is port port-is =
+      ap₂ (λ (q : Prefix) (n : ℕ). route (q .value) (q .len) n) p-is (port-is ∙ ap (portFrom file) size-is)
 
 module _ (w : ℕ) (file : List ℕ) (c : Cursor) (frame : ℕ) (frame-is : frame ≡ frameFault w file (c .count) (c .at) 0) where
   refused-step : (m : ℕ) (a : Answer) → faultAfter w file c ≡ m → (m ≡ 0 → ⊥) → a ≡ refused m (c .at) → Refused a ≡ stepAt w file c

@@ -15,7 +15,8 @@ use Rattle.refusals.specs.Refusals.{refused, accepted}
 use Rattle.routes.specs.Bounds.{mostRoutes}
 use Rattle.refusals.specs.declared.Answer.{Answer}
 use Rattle.routes.proofs.First.{NoneBelow}
-use Rattle.file_rules.specs.File.{headSize, sizeFor, lenAt, readAt, placeOf, fileRoute}
+use Rattle.octets.specs.Octets.{lenAt}
+use Rattle.file_rules.specs.File.{headSize, sizeFor, readAt, placeOf, fileRoute}
 use Rattle.file_rules.specs.Check.{frameFault, contentFault, fileFault, headFault, fileCheck}
 use Rattle.file_read.specs.Step.{faultAfter, cursorAfter, stepAt}
 use Rattle.file_read.specs.declared.step.Cursor.{Cursor}

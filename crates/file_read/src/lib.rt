@@ -1,7 +1,5 @@
 // The reader of route files, on any bytes: a first pass that checks and counts, and a second that writes.
 ghost use mathlib.Core.Path.{_≡_};
-ghost use Prim.Native.Nat.{_+_, _*_, _≤_};
-ghost use lib.ListN.{length};
 ghost use Rattle.promise.specs.Over.{over, outcome};
 ghost use Rattle.file_rules.specs.File.{fileRoute};
 ghost use Rattle.file_rules.specs.Check.{headFault, fileCheck};
@@ -11,6 +9,7 @@ ghost use Rattle.file_read.specs.Needs.{FitsList};
 use file_rules::HEAD_SIZE;
 use file_rules::VERSION;
 use file_rules::route_size;
+use octets::number_at;
 use prefix::Prefix;
 use refusals::Answer;
 use refusals::NO_ROOM;
@@ -21,7 +20,6 @@ use routes::ROUTE_SIZE;
 use routes::store_route;
 use step::Cursor;
 use step::Step;
-use step::number_at;
 use step::read_at;
 use step::step_at;
 

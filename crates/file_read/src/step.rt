@@ -1,16 +1,19 @@
 // One step of the reader at a cursor: the cursor after the route, or the refusal with its place.
 ghost use mathlib.Core.Path.{_≡_};
 ghost use mathlib.Core.Bool.{_||_};
-ghost use Prim.Native.Nat.{_+_, _^_, _≤_, _<_};
+ghost use Prim.Native.Nat.{_+_, _≤_, _<_};
 ghost use lib.Dec.{eqb};
 ghost use lib.ListN.{length};
-ghost use Rattle.bits.specs.Prefix.{first, precedes};
-ghost use Rattle.file_rules.specs.File.{prefixBytes, lenAt, valueFrom, portFrom, readAt};
+ghost use Rattle.bits.specs.Prefix.{precedes};
+ghost use Rattle.file_rules.specs.File.{portFrom, readAt};
 ghost use Rattle.file_rules.specs.Check.{frameFault, contentFault, Entire};
 ghost use Rattle.file_read.specs.Step.{stepAt};
-ghost use Rattle.file_read.specs.Needs.{ByteIs, NumberAt, Standing};
-use file_rules::prefix_bytes;
+ghost use Rattle.file_read.specs.Needs.{Standing};
 use file_rules::route_size;
+use octets::length_at;
+use octets::number_at;
+use octets::prefix_at;
+use octets::prefix_bytes;
 use prefix::Prefix;
 use refusals::Answer;
 use refusals::LONG_PREFIX;
@@ -35,58 +38,6 @@ pub enum Step {
     Refused(Answer),
 }
 
-// A byte as a number.
-fn wide(b: u8) -> u64
-    ensures { λ r. ⌜ ByteIs b r ⌝ }
-{
-    b as u64
-}
-
-// The number that k bytes write, big-endian.
-pub(crate) fn number_at(file: &[u8], from: usize, k: usize) -> u64
-    requires { ⌜ (from + k ≤ length (now file)) × (k ≤ 4) ⌝ }
-    ensures { λ r. ⌜ NumberAt (now (file .entry)) from k r ⌝ }
-{
-    let mut sum: u64 = 0;
-    let mut j: usize = 0;
-    while j < k {
-        sum = sum * 256 + wide(file[from + j]);
-        j += 1;
-    }
-    sum
-}
-
-// The length byte of the route at an offset.
-fn length_at(file: &[u8], at: usize) -> u32
-    requires { ⌜ at < length (now file) ⌝ }
-    ensures { λ r. ⌜ ByteIs (lenAt (now (file .entry)) at) r ⌝ }
-{
-    wide(file[at]) as u32
-}
-
-// The bytes of a value with all that is past the length cleared. Nothing else decides what becomes of spare bits.
-fn clear_past(bytes: u64, len: u32) -> u32
-    requires { ⌜ (bytes < 2 ^ 32) × (len ≤ 32) ⌝ }
-    ensures { λ r. ⌜ r ≡ first 32 bytes len ⌝ }
-{
-    let past = (32 - len) as usize;
-    ((bytes >> past) << past) as u32
-}
-
-// The value of a prefix from its bytes, its spare bits cleared.
-fn value_from(file: &[u8], from: usize, len: u32) -> u32
-    requires { ⌜ (from + prefixBytes len ≤ length (now file)) × (len ≤ 32) ⌝ }
-    ensures { λ r. ⌜ r ≡ first 32 (valueFrom 32 (now (file .entry)) from len) len ⌝ }
-{
-    // Four bytes at once where there are so many, and those past the prefix cleared too: no loop whose end must be guessed.
-    if from + 4 <= file.len() {
-        return clear_past(number_at(file, from, 4), len);
-    }
-    let k = prefix_bytes(len);
-    let high = number_at(file, from, k);
-    clear_past(high << (32 - 8 * k), len)
-}
-
 // The port from its two bytes.
 fn port_from(file: &[u8], from: usize) -> u32
     requires { ⌜ from + 2 ≤ length (now file) ⌝ }
@@ -100,10 +51,14 @@ pub(crate) fn read_at(file: &[u8], at: usize) -> Route
     requires { ⌜ Entire 32 (now file) at ⌝ }
     ensures { λ r. ⌜ r ≡ readAt 32 (now (file .entry)) at ⌝ }
 {
-    let len = length_at(file, at);
-    let value = value_from(file, at + 1, len);
-    let port = port_from(file, at + 1 + prefix_bytes(len));
-    Route { value, len, port }
+    let p = prefix_at(file, at);
+    // Summed in this order: by `prefix_size`, the loads of the length bytes waited for a sum, and a file took a seventh longer.
+    let port = port_from(file, at + 1 + prefix_bytes(p.len));
+    Route {
+        value: p.value,
+        len: p.len,
+        port,
+    }
 }
 
 // What keeps route i from being read, 0 if nothing does: 8, it is one too many; 4, its length is above 32; 3, it is cut.

@@ -14,14 +14,15 @@ use borrow.Author.Tests.{eqb-true, eqb-false}
 use Rattle.lists.proofs.Tests.{way}
 use Rattle.lists.specs.Numbered.{inOrder}
 use Rattle.routes.specs.declared.Route.{Route}
-use Rattle.file_rules.specs.Bytes.{number, digits, Bytes}
-use Rattle.file_rules.specs.File.{headSize, statedSize, prefixBytes, sizeFor, bitsAfter, lenAt, statedAt, readAt, placeOf, fileRoute, routeBytes, bodyOf, headOf, FileWidth}
+use Rattle.octets.specs.Bytes.{number, digits, Bytes}
+use Rattle.octets.specs.Octets.{prefixBytes, prefixSize, bitsAfter, lenAt}
+use Rattle.octets.proofs.Bytes.{length-digits, digits-cleared, last-digit, digits-taken}
+use Rattle.file_rules.specs.File.{headSize, statedSize, sizeFor, portFrom, readAt, placeOf, fileRoute, routeBytes, bodyOf, headOf, FileWidth}
 use Rattle.file_rules.specs.Check.{Entire, Whole}
 use Rattle.file_rules.specs.Cleared.{spareCount, lastByte, spareAt, clearedFile, SpareZero}
 use Rattle.file_rules.specs.Theorems.{FileCleared, ClearedLength, ClearedSame, FileSame}
-use Rattle.file_rules.proofs.Bytes.{length-digits, digits-cleared, last-digit}
 use Rattle.file_rules.proofs.Sound.{fault-none}
-use Rattle.file_rules.proofs.Whole.{digits-taken, route-taken}
+use Rattle.file_rules.proofs.Whole.{route-taken}
 
 -- the length byte and the bytes of a prefix: where the last one loses its last s bits, their number does
 last-cleared : (len q s x b : ℕ) → s ≤ 8 → (q ≡ 0 → s ≡ 0) → b ≡ getD (len ∷ digits q x) q 0
@@ -65,20 +66,21 @@ module _ (w : ℕ) (file : List ℕ) (at : ℕ) (wide : FileWidth w) (bytes : By
       ∙ ap₂ (λ (y k : ℕ). y * k) head (ap (λ (k : ℕ). 2 ^ k) c ∙ pow-add 2 s gap) ∙ sym (mul-assoc (x / 2 ^ s) (2 ^ s) (2 ^ gap)) in
       ap (λ (y : ℕ). y / 2 ^ gap) value ∙ shl-shr (x / 2 ^ s * 2 ^ s) gap ∙ omega (arith, split x s)
 
-  -- the bytes up to the last one of the prefix, as stated
+  -- the bytes up to the last one of the prefix, as stated, and those of the port
   abbrev front : List ℕ
   front = len ∷ digits q x
 
-  stated-bytes : routeBytes w (statedAt w file at) ≡ front ++ digits 2 (statedAt w file at .port)
-  stated-bytes = ap (λ (y : ℕ). (len ∷ digits q y) ++ digits 2 (statedAt w file at .port)) (shl-shr x gap)
+  abbrev port : List ℕ
+  port = digits 2 (portFrom file (at + prefixSize len))
+
+  stated-bytes : take (sizeFor len) (drop at file) ≡ front ++ port
+  stated-bytes = route-taken w file at bytes (entire .uncut) ∙ ap (λ (y : ℕ). (len ∷ digits q y) ++ port) (shl-shr x gap)
 
   last-is : getD file (lastByte file at) 0 ≡ getD front q 0
   last-is =
-      let port = digits 2 (statedAt w file at .port) in
       let rest = drop (sizeFor len) (drop at file) in
       let from : drop at file ≡ front ++ (port ++ rest) =
-      sym (take-append-drop (sizeFor len) (drop at file))
-      ∙ ap (λ (l : List ℕ). l ++ rest) (route-taken w file at bytes (entire .uncut) ∙ stated-bytes) ∙ append-assoc front port rest in
+      sym (take-append-drop (sizeFor len) (drop at file)) ∙ ap (λ (l : List ℕ). l ++ rest) stated-bytes ∙ append-assoc front port rest in
       sym (getD-drop at file q 0) ∙ ap (λ (l : List ℕ). getD l q 0) from
       ∙ List·getD-append front (port ++ rest) 0 q (omega (arith, length-digits q x))
 
@@ -88,10 +90,9 @@ module _ (w : ℕ) (file : List ℕ) (at : ℕ) (wide : FileWidth w) (bytes : By
   unfolding readAt
   route-cleared =
       let b = getD file (lastByte file at) 0 in
-      let port = digits 2 (statedAt w file at .port) in
       ap (take (sizeFor len)) (drop-set-add at file q (b - spareAt file at))
       ∙ take-set-lt (sizeFor len) (drop at file) q (b - spareAt file at) (omega arith)
-      ∙ ap (λ (l : List ℕ). set l q (b - spareAt file at)) (route-taken w file at bytes (entire .uncut) ∙ stated-bytes)
+      ∙ ap (λ (l : List ℕ). set l q (b - spareAt file at)) stated-bytes
       ∙ set-append-left front port q (b - spareAt file at) (omega (arith, length-digits q x))
       ∙ ap (λ (l : List ℕ). l ++ port) (last-cleared len q s x b (omega arith) (λ z. omega (arith, z)) last-is)
       ∙ ap (λ (y : ℕ). (len ∷ digits q y) ++ port) (sym kept-bits)

@@ -1,5 +1,4 @@
 -- Laws of the route file.
-pub mod Bytes
 pub mod Cleared
 pub mod Sound
 pub mod Walk

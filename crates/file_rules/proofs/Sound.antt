@@ -15,7 +15,8 @@ use Rattle.routes.specs.Bounds.{mostRoutes}
 use Rattle.routes.specs.Check.{isPort, above}
 use Rattle.routes.proofs.Faults.{orFault, unless-none}
 use Rattle.routes.proofs.First.{NoneBelow}
-use Rattle.file_rules.specs.File.{headSize, sizeFor, lenAt, placeOf, fileRoute}
+use Rattle.octets.specs.Octets.{lenAt}
+use Rattle.file_rules.specs.File.{headSize, sizeFor, placeOf, fileRoute}
 use Rattle.file_rules.specs.Check.{frameFault, fileFault, Entire}
 
 -- places

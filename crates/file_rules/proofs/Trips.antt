@@ -17,7 +17,7 @@ use Rattle.routes.specs.Check.{listCheck, routesCheck, firstFault}
 use Rattle.refusals.specs.declared.Answer.{Answer}
 use Rattle.routes.specs.declared.Route.{Route}
 use Rattle.routes.proofs.Check.{accepted-sized, accepted-valid, check-done}
-use Rattle.file_rules.specs.Bytes.{number, digits}
+use Rattle.octets.specs.Bytes.{number, digits}
 use Rattle.file_rules.specs.File.{fileRoute, headOf, fileOf}
 use Rattle.lists.specs.Numbered.{inOrder}
 use Rattle.file_rules.specs.Check.{headFault, checkFrom, fileCheck, Whole}

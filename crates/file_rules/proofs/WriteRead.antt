@@ -1,89 +1,58 @@
 -- The file of a valid list is accepted, and its routes are those of the list. Assumes nothing.
-use mathlib.Core.Path.{_≡_, refl, sym, ap, _∙_}
+use mathlib.Core.Path.{_≡_, refl, sym, ap, ap₂, _∙_}
 use mathlib.Core.List.{List, _++_, append-assoc}
-use Prim.Native.Nat.{ℕ, zero, suc, _+_, _-_, _*_, _/_, _%_, _^_, _≤_, _<_}
+use Prim.Native.Nat.{ℕ, zero, suc, _+_, _-_, _*_, _^_, _≤_, _<_}
 use native.Mathlib.Omega.{arith}
-use native.Mathlib.Nat.{mod-eq-of-lt, div-add-mod'}
-use lib.Pow.{shr-lt}
-use lib.ListN.{length, getD, drop, length-append}
-use lib.Seq.{take-at, drop-at, getD-at, drop-append-add, drop-drop}
-use Rattle.bits.proofs.Order.{zeros-longer}
-use Rattle.bits.proofs.Prefix.{first-valid}
+use lib.ListN.{length, drop, length-append, length-drop}
+use lib.Seq.{drop-at}
+use Rattle.lists.specs.Numbered.{inOrder}
+use Rattle.lists.proofs.InOrder.{length-in-order-le, in-order-split}
+use Rattle.prefix.specs.declared.Prefix.{Prefix}
+use Rattle.octets.specs.Bytes.{digits}
+use Rattle.octets.specs.Octets.{prefixSize, lenAt, prefixOctets}
+use Rattle.octets.proofs.Bytes.{number-back}
+use Rattle.octets.proofs.Prefixes.{len-back, rest-back, prefix-back}
 use Rattle.routes.specs.Routes.{route, ValidRoute, ValidList}
 use Rattle.routes.specs.Check.{isPort, above}
 use Rattle.routes.specs.declared.Route.{Route}
 use Rattle.routes.proofs.Faults.{valid-faultless}
 use Rattle.routes.proofs.Check.{valid-above}
-use Rattle.file_rules.specs.Bytes.{number, digits}
-use Rattle.file_rules.specs.File.{headSize, prefixBytes, sizeFor, bitsAfter, lenAt, cleared, readAt, placeOf, fileRoute, routeBytes, bodyOf, headOf, fileOf, FileWidth}
-use Rattle.lists.specs.Numbered.{inOrder}
+use Rattle.file_rules.specs.File.{headSize, sizeFor, portFrom, readAt, placeOf, fileRoute, routeBytes, bodyOf, headOf, fileOf, FileWidth}
 use Rattle.file_rules.specs.Check.{Headed, Whole}
 use Rattle.file_rules.specs.Theorems.{FileBack}
-use Rattle.file_rules.proofs.Bytes.{length-digits, number-digits}
-use Rattle.lists.proofs.InOrder.{length-in-order-le, in-order-split}
 use Rattle.file_rules.proofs.Sound.{Sound, none-fault}
 use Rattle.file_rules.proofs.Whole.{length-head, length-route-bytes}
 
 -- the bytes of route r stand at an offset of a file
 record Stands (w : ℕ) (r : Route) (file : List ℕ) (at : ℕ) : Type 0 where
-  before : List ℕ
   after : List ℕ
-  is : file ≡ before ++ (routeBytes w r ++ after)
-  begins : length before ≡ at
+  is : drop at file ≡ routeBytes w r ++ after
 
--- a valid route, written
-module _ (w : ℕ) (wide : FileWidth w) (r : Route) (ok : ValidRoute w r) where
-  abbrev k : ℕ
-  k = prefixBytes (r .len)
+module _ (w : ℕ) (r : Route) (file : List ℕ) (at : ℕ) (s : Stands w r file at) where
+  -- its prefix stands there, and then its port
+  abbrev ported : List ℕ
+  ported = digits 2 (r .port) ++ s .after
 
-  abbrev gap : ℕ
-  gap = bitsAfter w (r .len)
+  prefix-stands : drop at file ≡ prefixOctets w (r .value) (r .len) ++ ported
+  prefix-stands = s .is ∙ append-assoc (prefixOctets w (r .value) (r .len)) (digits 2 (r .port)) (s .after)
 
-  abbrev high : List ℕ
-  high = digits k (r .value / 2 ^ gap)
+  len-written : lenAt file at ≡ r .len
+  len-written = len-back w (r .value) (r .len) file at ported prefix-stands
 
-  abbrev port : List ℕ
-  port = digits 2 (r .port)
+  uncut-written : at + sizeFor (lenAt file at) ≤ length file
+  uncut-written =
+      rw len-written
+      (omega (arith, sym (length-drop at file) ∙ ap length (s .is) ∙ length-append (routeBytes w r) (s .after), length-route-bytes w r))
 
-  -- the bits that its bytes leave out are zero, and so the value comes back
-  value-back : number high * 2 ^ gap ≡ r .value
-  value-back =
-      let p = ok .prefix in
-      let fit : 8 * k ≤ w = omega (arith, p .short, wide .whole) in
-      let whole : 8 * k + gap ≡ w = omega (arith, fit) in
-      let low : r .value % 2 ^ gap ≡ 0 = zeros-longer w (r .value) (r .len) (8 * k) (omega arith) fit (p .zeros) in
-      let small : r .value / 2 ^ gap < 2 ^ (8 * k) = shr-lt (8 * k) gap (rw whole (p .fits)) in
-      ap (λ (x : ℕ). x * 2 ^ gap) (number-digits k (r .value / 2 ^ gap) ∙ mod-eq-of-lt small)
-      ∙ omega (arith, div-add-mod' (r .value) (2 ^ gap), low)
-
-  port-back : number port ≡ r .port
-  port-back = number-digits 2 (r .port) ∙ mod-eq-of-lt (omega (arith, ok .most))
-
-  -- where it stands, it is read
-  module _ (file : List ℕ) (at : ℕ) (s : Stands w r file at) where
-    len-written : lenAt file at ≡ r .len
-    len-written = ap (λ (l : List ℕ). getD l at 0) (s .is) ∙ getD-at (s .before) (r .len) (high ++ port ++ s .after) 0 at (s .begins)
-
-    after-len : drop (at + 1) file ≡ high ++ (port ++ s .after)
-    after-len =
-        ap (drop (at + 1)) (s .is) ∙ ap (λ (i : ℕ). drop (i + 1) (s .before ++ (routeBytes w r ++ s .after))) (sym (s .begins))
-        ∙ drop-append-add (s .before) (routeBytes w r ++ s .after) 1 ∙ append-assoc high port (s .after)
-
-    after-value : drop (at + 1 + k) file ≡ port ++ s .after
-    after-value =
-        sym (drop-drop k (at + 1) file) ∙ ap (drop k) after-len
-        ∙ drop-at high (port ++ s .after) k (length-digits k (r .value / 2 ^ gap))
-
-    read-at : readAt w file at ≡ r
-    unfolding readAt
-    read-at =
-        let clear : cleared w r ≡ r = ap (λ (v : ℕ). route v (r .len) (r .port)) (first-valid w (r .value) (r .len) (ok .prefix)) in
-        rw (len-written, after-len, take-at high (port ++ s .after) k (length-digits k (r .value / 2 ^ gap)), value-back, after-value, take-at port (s .after) 2 (length-digits 2 (r .port)), port-back) clear
-
-    uncut-written : at + sizeFor (lenAt file at) ≤ length file
-    uncut-written =
-        rw len-written
-        (omega (arith, ap length (s .is) ∙ length-append (s .before) (routeBytes w r ++ s .after), length-append (routeBytes w r) (s .after), length-route-bytes w r, s .begins))
+  -- a valid route is read
+  read-at : FileWidth w → ValidRoute w r → readAt w file at ≡ r
+  unfolding readAt
+  read-at wide ok =
+      let port : portFrom file (at + prefixSize (lenAt file at)) ≡ r .port =
+      rw len-written
+      (number-back file (at + prefixSize (r .len)) 2 (r .port) (s .after) (rest-back w (r .value) (r .len) file at ported prefix-stands) (omega (arith, ok .most))) in
+      ap₂ (λ (p : Prefix) (n : ℕ). route (p .value) (p .len) n)
+      (prefix-back w (r .value) (r .len) file at ported prefix-stands (wide .whole) (ok .prefix)) port
 
 module _ (w : ℕ) (wide : FileWidth w) (R : ℕ → Route) (n : ℕ) (ok : ValidList w R n) where
   abbrev file : List ℕ
@@ -100,14 +69,16 @@ module _ (w : ℕ) (wide : FileWidth w) (R : ℕ → Route) (n : ℕ) (ok : Vali
   length-front i = length-append (headOf size) (bodyOf w R i) ∙ omega (arith, length-head size)
 
   route-stands : (i : ℕ) → i < n → Stands w (R i) file (headSize + length (bodyOf w R i))
-  route-stands i h = record {
-    before = front i;
-    after = drop (length (bodyOf w R (i + 1))) (bodyOf w R n);
-    is =
-        ap (λ (l : List ℕ). headOf size ++ l) (in-order-split (routeBytes w) R i n h)
-        ∙ sym (append-assoc (headOf size) (bodyOf w R i) (routeBytes w (R i) ++ drop (length (bodyOf w R (i + 1))) (bodyOf w R n)));
-    begins = length-front i;
-  }
+  route-stands i h =
+      let rest = drop (length (bodyOf w R (i + 1))) (bodyOf w R n) in
+      record {
+        after = rest;
+        is =
+            ap (drop (headSize + length (bodyOf w R i)))
+            (ap (λ (l : List ℕ). headOf size ++ l) (in-order-split (routeBytes w) R i n h)
+            ∙ sym (append-assoc (headOf size) (bodyOf w R i) (routeBytes w (R i) ++ rest)))
+            ∙ drop-at (front i) (routeBytes w (R i) ++ rest) (headSize + length (bodyOf w R i)) (length-front i);
+      }
 
   place-written : (i : ℕ) → i ≤ n → placeOf file i ≡ headSize + length (bodyOf w R i)
   unfolding placeOf inOrder
@@ -115,7 +86,7 @@ module _ (w : ℕ) (wide : FileWidth w) (R : ℕ → Route) (n : ℕ) (ok : Vali
   place-written (suc i) h =
       let at = place-written i (omega arith) in
       let l : lenAt file (placeOf file i) ≡ R i .len =
-      rw at (len-written w wide (R i) (ok .each i (omega arith)) file (headSize + length (bodyOf w R i)) (route-stands i (omega arith))) in
+      rw at (len-written w (R i) file (headSize + length (bodyOf w R i)) (route-stands i (omega arith))) in
       omega (arith, at, ap sizeFor l, length-route-bytes w (R i), length-append (bodyOf w R i) (routeBytes w (R i)))
 
   -- route i stands at its place
@@ -123,7 +94,7 @@ module _ (w : ℕ) (wide : FileWidth w) (R : ℕ → Route) (n : ℕ) (ok : Vali
   stands i h = rw (place-written i (omega arith)) (route-stands i h)
 
   route-written : (i : ℕ) → i < n → fileRoute w file i ≡ R i
-  route-written i h = read-at w wide (R i) (ok .each i h) file (placeOf file i) (stands i h)
+  route-written i h = read-at w (R i) file (placeOf file i) (stands i h) wide (ok .each i h)
 
   above-written : (i : ℕ) → i < n → above (fileRoute w file) i ≡ above R i
   above-written zero h = refl
@@ -138,8 +109,8 @@ module _ (w : ℕ) (wide : FileWidth w) (R : ℕ → Route) (n : ℕ) (ok : Vali
       record {
         few = omega (arith, ok .few);
         entire = record {
-          short = rw (len-written w wide (R i) r file (placeOf file i) (stands i h)) (r .prefix .short);
-          uncut = uncut-written w wide (R i) r file (placeOf file i) (stands i h);
+          short = rw (len-written w (R i) file (placeOf file i) (stands i h)) (r .prefix .short);
+          uncut = uncut-written w (R i) file (placeOf file i) (stands i h);
         };
         ported = ap (λ (x : Route). isPort (x .port)) (route-written i h) ∙ v .ported;
         rises = above-written i h ∙ v .rises;
@@ -159,9 +130,7 @@ module _ (w : ℕ) (wide : FileWidth w) (R : ℕ → Route) (n : ℕ) (ok : Vali
   headed-written = record {
     long = omega (arith, length-file);
     versioned = refl;
-    sized =
-        ap number (take-at (digits 4 size) (bodyOf w R n) 4 (length-digits 4 size)) ∙ number-digits 4 size ∙ mod-eq-of-lt size-small
-        ∙ omega (arith, length-file);
+    sized = number-back file 1 4 size (bodyOf w R n) refl size-small ∙ omega (arith, length-file);
   }
 
   whole-written : Whole w file n

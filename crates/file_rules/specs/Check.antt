@@ -9,7 +9,8 @@ use Rattle.refusals.specs.Refusals.{shortFile, wrongVersion, wrongSize, longPre
 use Rattle.routes.specs.Bounds.{mostRoutes}
 use Rattle.routes.specs.Check.{isPort, above}
 use Rattle.refusals.specs.declared.Answer.{Answer}
-use Rattle.file_rules.specs.File.{version, headSize, statedSize, sizeFor, lenAt, readAt, placeOf, fileRoute}
+use Rattle.octets.specs.Octets.{lenAt}
+use Rattle.file_rules.specs.File.{version, headSize, statedSize, sizeFor, readAt, placeOf, fileRoute}
 use Rattle.routes.specs.declared.Route.{Route}
 
 -- "1, 2, 3 (size)"

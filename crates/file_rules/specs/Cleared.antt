@@ -3,7 +3,8 @@ use mathlib.Core.Path.{_≡_}
 use mathlib.Core.List.{List}
 use Prim.Native.Nat.{ℕ, zero, suc, _+_, _-_, _*_, _%_, _^_, _<_}
 use lib.ListN.{getD, set}
-use Rattle.file_rules.specs.File.{prefixBytes, lenAt, placeOf}
+use Rattle.octets.specs.Octets.{prefixBytes, lenAt}
+use Rattle.file_rules.specs.File.{placeOf}
 
 -- "the trailing bits of the last prefix byte": how many there are; a /0 has no byte, and none
 abbrev pub spareCount : ℕ → ℕ

@@ -1,13 +1,13 @@
 -- Defines the route file of w-bit addresses, which route stands where in its bytes, and the bytes of a list's routes: rules,
 -- "The route file". Assumes nothing.
 use mathlib.Core.Path.{_≡_}
-use mathlib.Core.List.{List, [], _∷_, _++_}
-use Prim.Native.Nat.{ℕ, zero, suc, _+_, _-_, _*_, _/_, _^_, _<_, _%_, _≤_}
-use lib.ListN.{length, getD, take, drop}
-use Rattle.bits.specs.Prefix.{first}
+use mathlib.Core.List.{List, _∷_, _++_}
+use Prim.Native.Nat.{ℕ, zero, suc, _+_, _%_, _^_, _<_, _≤_}
+use lib.ListN.{length, take, drop}
 use Rattle.routes.specs.Routes.{route}
 use Rattle.routes.specs.declared.Route.{Route}
-use Rattle.file_rules.specs.Bytes.{number, digits}
+use Rattle.octets.specs.Bytes.{number, digits}
+use Rattle.octets.specs.Octets.{prefixSize, lenAt, prefixAt, prefixOctets}
 use Rattle.lists.specs.Numbered.{inOrder}
 
 -- "Byte 0 is the version, 1."
@@ -22,53 +22,25 @@ headSize = 5
 abbrev pub statedSize : List ℕ → ℕ
 statedSize file = number (take 4 (drop 1 file))
 
--- "the fewest bytes that hold that many bits". "A /0 has no prefix byte."
-abbrev pub prefixBytes : ℕ → ℕ
-prefixBytes len = (len + 7) / 8
-
--- r is how many bytes hold a prefix, with the bound that callers want
-pub record BytesFor (len r : ℕ) : Type 0 where
-  pub is : r ≡ prefixBytes len
-  pub small : r < 2 ^ 30
-
 -- the bytes of a route: "one byte prefix length in bits, the fewest bytes that hold that many bits, two bytes port"
 abbrev pub sizeFor : ℕ → ℕ
-sizeFor len = prefixBytes len + 3
+sizeFor len = prefixSize len + 2
 
 -- r is how many bytes a route takes, with the bound that callers want
 pub record RouteBytes (len r : ℕ) : Type 0 where
   pub is : r ≡ sizeFor len
   pub small : r < 2 ^ 31
 
--- the bits of an address that the bytes of a prefix leave out
-abbrev pub bitsAfter : ℕ → ℕ → ℕ
-bitsAfter w len = w - 8 * prefixBytes len
-
 -- reading: the route whose first byte is at an offset
-
--- "one byte prefix length in bits"
-abbrev pub lenAt : List ℕ → ℕ → ℕ
-lenAt file at = getD file at 0
-
--- the bytes of a prefix are the first bits of its value
-abbrev pub valueFrom : ℕ → List ℕ → ℕ → ℕ → ℕ
-valueFrom w file from len = number (take (prefixBytes len) (drop from file)) * 2 ^ bitsAfter w len
 
 -- "two bytes port, big-endian"
 abbrev pub portFrom : List ℕ → ℕ → ℕ
 portFrom file from = number (take 2 (drop from file))
 
--- the route as its bytes state it
-abbrev pub statedAt : ℕ → List ℕ → ℕ → Route
-statedAt w file at =
-    route (valueFrom w file (at + 1) (lenAt file at)) (lenAt file at) (portFrom file (at + 1 + prefixBytes (lenAt file at)))
-
--- "The file reader is to clear those bits": the one place that says what becomes of a route with bits set past its length
-abbrev pub cleared : ℕ → Route → Route
-cleared w r = route (first w (r .value) (r .len)) (r .len) (r .port)
-
+-- the prefix, its spare bits cleared as `prefixAt` says, and the port after it
 unfoldable pub readAt : ℕ → List ℕ → ℕ → Route
-readAt w file at = cleared w (statedAt w file at)
+readAt w file at =
+    route (prefixAt w file at .value) (prefixAt w file at .len) (portFrom file (at + prefixSize (lenAt file at)))
 
 -- "Then the routes in list order": the offset of route i's first byte
 unfoldable pub placeOf : List ℕ → ℕ → ℕ
@@ -83,8 +55,7 @@ fileRoute w file i = readAt w file (placeOf file i)
 
 -- "one byte prefix length in bits, the fewest bytes that hold that many bits, two bytes port, big-endian"
 abbrev pub routeBytes : ℕ → Route → List ℕ
-routeBytes w r =
-    (r .len ∷ []) ++ digits (prefixBytes (r .len)) (r .value / 2 ^ bitsAfter w (r .len)) ++ digits 2 (r .port)
+routeBytes w r = prefixOctets w (r .value) (r .len) ++ digits 2 (r .port)
 
 -- "Then the routes in list order"
 abbrev pub bodyOf : ℕ → (ℕ → Route) → ℕ → List ℕ

@@ -9,15 +9,11 @@ use Rattle.promise.specs.Over.{over, outcome}
 use Rattle.refusals.specs.Refusals.{shortFile, wrongVersion, wrongSize, spareBits, tooManyRoutes, refused, accepted}
 use Rattle.routes.specs.Routes.{routeCount, ValidList, Words}
 use Rattle.routes.specs.declared.Route.{Route}
-use Rattle.file_rules.specs.Bytes.{Bytes}
-use Rattle.file_rules.specs.File.{version, headSize, statedSize, prefixBytes, fileRoute, fileOf, FileWidth}
+use Rattle.octets.specs.Bytes.{Bytes}
+use Rattle.file_rules.specs.File.{version, headSize, statedSize, fileRoute, fileOf, FileWidth}
 use Rattle.file_rules.specs.Check.{fileCheck, Headed, FirstRoute, Whole}
 use Rattle.file_rules.specs.Cleared.{clearedFile, SpareZero}
 use Rattle.file_rules.specs.Calls.{readFile, writeFile}
-
--- "The prefix takes as few bytes as hold (length) bits": they hold them, and no fewer do
-abbrev pub FewestBytes : Type 0
-FewestBytes = (len : ℕ) → (len ≤ 8 * prefixBytes len) × ((k : ℕ) → len ≤ 8 * k → prefixBytes len ≤ k)
 
 -- 1, 2 and 3 (size), each before the next and before any route, at place 0
 abbrev pub FileUnheaded : Type 0

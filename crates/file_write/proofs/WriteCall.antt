@@ -13,8 +13,10 @@ use Rattle.file_rules.specs.File.{headSize, bodyOf, headOf, fileOf}
 use Rattle.file_rules.specs.Calls.{writeFile}
 use Rattle.file_rules.proofs.Whole.{length-head}
 use Rattle.file_rules.proofs.Trips.{checked-refused, checked-short, write-done}
-use Rattle.file_write.specs.Needs.{stored, BodySize, FitsFile}
-use Rattle.file_write.proofs.Store.{stored-over, length-over-head}
+use Rattle.octets.specs.Octets.{stored}
+use Rattle.octets.proofs.Store.{stored-over}
+use Rattle.file_write.specs.Needs.{BodySize, FitsFile}
+use Rattle.file_write.proofs.Store.{length-over-head}
 
 module _ (w : ℕ) (list file : List ℕ) (checked : Answer) (is : checked ≡ listCheck w list) where
   pub write-refused : (checked .number ≡ 0 → ⊥) → outcome checked file ≡ writeFile w list file

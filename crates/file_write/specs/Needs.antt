@@ -3,15 +3,10 @@ use mathlib.Core.Path.{_≡_}
 use mathlib.Core.List.{List}
 use Prim.Native.Nat.{ℕ, _+_, _*_, _≤_}
 use lib.ListN.{length}
-use lib.Seq.{paste}
 use Rattle.routes.specs.Bounds.{mostRoutes}
 use Rattle.routes.specs.Routes.{routeAt, routeCount}
 use Rattle.routes.specs.Check.{listCheck}
 use Rattle.file_rules.specs.File.{headSize, sizeFor, bodyOf}
-
--- bytes stored from an offset on, the others as they were
-abbrev pub stored : List ℕ → ℕ → List ℕ → List ℕ
-stored file at bytes = paste file at bytes (length bytes)
 
 -- r is the size of the body of a list's file
 pub record BodySize (w : ℕ) (list : List ℕ) (r : ℕ) : Type 0 where

@@ -5,14 +5,16 @@ ghost use lib.ListN.{length};
 ghost use Rattle.promise.specs.Over.{over, outcome};
 ghost use Rattle.routes.specs.Routes.{routeAt, routeCount};
 ghost use Rattle.routes.specs.Check.{listCheck};
-ghost use Rattle.file_rules.specs.Bytes.{digits};
+ghost use Rattle.octets.specs.Octets.{stored};
 ghost use Rattle.file_rules.specs.File.{headSize, sizeFor, routeBytes, bodyOf, headOf};
 ghost use Rattle.file_rules.specs.Calls.{writeFile};
-ghost use Rattle.file_write.specs.Needs.{stored, BodySize, FitsFile};
+ghost use Rattle.file_write.specs.Needs.{BodySize, FitsFile};
 use file_rules::HEAD_SIZE;
 use file_rules::VERSION;
-use file_rules::prefix_bytes;
 use file_rules::route_size;
+use octets::prefix_size;
+use octets::put_number;
+use octets::put_prefix;
 use refusals::Answer;
 use refusals::NO_ROOM;
 use routes::ROUTE_SIZE;
@@ -20,29 +22,13 @@ use routes::Route;
 use routes::check_list;
 use routes::route_at;
 
-// Stores the last k bytes of a number, big-endian, from an offset on.
-fn put_number(file: &mut [u8], at: usize, k: usize, x: u64)
-    requires { ⌜ (at + k ≤ length (now file)) × (k ≤ 4) ⌝ }
-    ensures { λ _. ⌜ now (file .exit) ≡ stored (now (file .entry)) at (digits k x) ⌝ }
-{
-    let mut j: usize = 0;
-    while j < k {
-        let gap = 8 * (k - 1 - j);
-        file[at + j] = ((x >> gap) % 256) as u8;
-        j += 1;
-    }
-}
-
 // Stores the bytes of a route from an offset on.
 fn put_bytes(file: &mut [u8], at: usize, r: Route)
     requires { ⌜ (at + sizeFor (r .len) ≤ length (now file)) × (r .len ≤ 32) ⌝ }
     ensures { λ _. ⌜ now (file .exit) ≡ stored (now (file .entry)) at (routeBytes 32 r) ⌝ }
 {
-    let k = prefix_bytes(r.len);
-    let gap = 32 - 8 * k;
-    put_number(file, at, 1, r.len as u64);
-    put_number(file, at + 1, k, (r.value as u64) >> gap);
-    put_number(file, at + 1 + k, 2, r.port as u64);
+    put_prefix(file, at, r.value, r.len);
+    put_number(file, at + prefix_size(r.len), 2, r.port as u64);
 }
 
 // How many bytes the routes of a valid list take.

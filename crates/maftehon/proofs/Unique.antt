@@ -47,6 +47,10 @@ use Rattle.maftehon.proofs.segments.mft_segments_lookup.Kinds as segmen
 use Rattle.maftehon.proofs.segments.mft_segments_lookup.Reads as segments-lookup-reads
 use Rattle.maftehon.proofs.segments.mft_segments_entries.Kinds as segments-entries-kinds
 use Rattle.maftehon.proofs.segments.mft_segments_entries.Reads as segments-entries-reads
+use Rattle.maftehon.proofs.messages.mft_message_apply.Kinds as message-apply-kinds
+use Rattle.maftehon.proofs.messages.mft_message_apply.Reads as message-apply-reads
+use Rattle.maftehon.proofs.messages.mft_message_write.Kinds as message-write-kinds
+use Rattle.maftehon.proofs.messages.mft_message_write.Reads as message-write-reads
 
 file-read-unique : Determined 3 file-read-kinds.ps file-read-kinds.r file-read-reads.Post (λ κs x s. outcome (reply x (now (s .1 .1 .0))) (now (s .1 .0)))
 file-read-unique κs a x y s t p q = p ∙ sym q
@@ -107,3 +111,9 @@ segments-lookup-unique κs a x y s t p q = p ∙ sym q
 
 segments-entries-unique : Determined 3 segments-entries-kinds.ps segments-entries-kinds.r segments-entries-reads.Post (λ κs x s. reply x (now (s .1 .1 .1 .0)))
 segments-entries-unique κs a x y s t p q = p ∙ sym q
+
+message-apply-unique : Determined 3 message-apply-kinds.ps message-apply-kinds.r message-apply-reads.Post (λ κs x s. outcome (reply x (now (s .1 .1 .1 .1 .0))) (now (s .1 .1 .0)))
+message-apply-unique κs a x y s t p q = p ∙ sym q
+
+message-write-unique : Determined 3 message-write-kinds.ps message-write-kinds.r message-write-reads.Post (λ κs x s. outcome (reply x (now (s .1 .1 .0))) (now (s .1 .0)))
+message-write-unique κs a x y s t p q = p ∙ sym q

@@ -2,6 +2,7 @@
 pub mod files;
 pub mod images;
 pub mod lists;
+pub mod messages;
 mod replies;
 pub mod segments;
 pub mod tables;

@@ -16,7 +16,7 @@ use Rattle.routes.specs.Routes.{routeSize, routeAt, routeCount, listOfRoutes}
 use Rattle.lists.specs.Numbered.{listOf}
 use Rattle.refusals.specs.declared.Answer.{Answer}
 use Rattle.routes.specs.declared.Route.{Route}
-use Rattle.file_rules.specs.Bytes.{Bytes}
+use Rattle.octets.specs.Bytes.{Bytes}
 use Rattle.file_rules.specs.File.{fileRoute, FileWidth}
 use Rattle.file_rules.specs.Check.{fileCheck}
 use Rattle.file_rules.specs.Calls.{checkedThen, readFile}

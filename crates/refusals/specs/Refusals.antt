@@ -44,6 +44,9 @@ wrongStride = 12
 
 -- 13 is not given, and no other refusal takes the number: it was for more than 8,193 runs, which 4,096 routes cannot have
 
+abbrev pub badMessage : ℕ
+badMessage = 14
+
 -- "A refusal returns its number and a place, all other results 0"
 abbrev pub refused : ℕ → ℕ → Answer
 refused number place = record { number = number; place = place; count = 0 }

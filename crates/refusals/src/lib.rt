@@ -31,6 +31,8 @@ pub const WRONG_STRIDE: u32 = 12;
 
 // 13 is not given, and no other refusal takes the number: it was for more than 8,193 runs, which 4,096 routes cannot have.
 
+pub const BAD_MESSAGE: u32 = 14;
+
 // What a call answers: the refusal's number and place, both 0 where it is done, and its one other result.
 pub struct Answer {
     pub number: u32,

@@ -6,6 +6,7 @@ use crate::tally::Tally;
 use reference::Answer;
 use std::fmt::{self, Debug};
 use workload::segments::Stores;
+use workload::{list_of, Held};
 
 /// What a compared call, or a scenario of them, gives where the two libraries agree.
 ///
@@ -264,5 +265,36 @@ impl<'a> Checker<'a> {
             (library.segments_entries)(stores.each_ref().map(Lent::all), *entry)
         });
         Ok(given?.0)
+    }
+
+    /// The rows are afterwards what the right library leaves.
+    pub fn message_apply(&mut self, message: &[u8], port: u32, rows: &mut [u32], n: u32) -> Compared<Answer<2>> {
+        let lent = (Lent::of(message), Lent::of(rows));
+        let (answer, (_, lent)) = self.one("message_apply", lent, (message, port, n), |library, (message, rows)| {
+            (library.message_apply)(message.all(), port, rows.all_mut(), n)
+        })?;
+        rows.copy_from_slice(lent.all());
+        Ok(answer)
+    }
+
+    pub fn message_write(&mut self, list: &[u32], room: usize) -> Compared<(Answer<2>, Vec<u8>)> {
+        let lent = (Lent::of(list), Lent::room(room));
+        let (answer, (_, message)) = self.one("message_write", lent, (list, room), |library, (list, message)| {
+            (library.message_write)(list.all(), message.all_mut())
+        })?;
+        Ok((answer, message.all().to_vec()))
+    }
+
+    /// Saves a table: it is to hold the routes expected, which no library made, and no others.
+    pub fn table_holds(&mut self, rows: &[u32], n: u32, expected: &Held) -> Compared<()> {
+        let lent = (Lent::of(rows), Lent::room(3 * expected.len()));
+        let (answer, (_, list)) = self.one("table_save", lent, (n,), |library, (rows, list)| {
+            (library.table_save)(rows.all(), n, list.all_mut())
+        })?;
+        if (answer.number, answer.answer[1] as usize) != (0, expected.len()) || list.all() != list_of(expected) {
+            let what = format!("holds {}, and is to hold {}", shown(&list.all()), shown(expected));
+            return Err(Difference::new("table_save", &(n,), what));
+        }
+        Ok(())
     }
 }

@@ -26,6 +26,8 @@ pub struct Library {
     pub segments_lookup: fn([&[u16]; 4], u32) -> Answer<3>,
     /// The stores are packed and plain.
     pub segments_entries: fn([&[u16]; 2], u32) -> Answer<3>,
+    pub message_apply: fn(&[u8], u32, &mut [u32], u32) -> Answer<2>,
+    pub message_write: fn(&[u32], &mut [u8]) -> Answer<2>,
 }
 
 /// The rules in plain Rust, which have one image lookup for every stride.
@@ -50,6 +52,8 @@ pub const REFERENCE: Library = Library {
         reference::segments_lookup(first, packed, plain, last, address)
     },
     segments_entries: |[packed, plain], entry| reference::segments_entries(packed, plain, entry),
+    message_apply: reference::message_apply,
+    message_write: reference::message_write,
 };
 
 /// The proved library, through its C boundary.
@@ -82,6 +86,8 @@ pub const PROVED: Library = Library {
         of(calls::segments_lookup(first, packed, plain, last, address))
     },
     segments_entries: |[packed, plain], entry| of(calls::segments_entries(packed, plain, entry)),
+    message_apply: |message, port, rows, n| of(calls::message_apply(message, port, rows, n)),
+    message_write: |list, message| of(calls::message_write(list, message)),
 };
 
 fn of<const N: usize>(reply: Reply<N>) -> Answer<N> {

@@ -3,8 +3,8 @@
 use std::collections::BTreeMap;
 use std::fmt;
 
-/// Done, and the refusals 1 to 12.
-const NUMBERS: usize = 13;
+/// Done, and the refusals up to 14, of which 13 is not given.
+const NUMBERS: usize = 15;
 
 /// Counts by call and by number answered.
 #[derive(Default)]

@@ -1,5 +1,6 @@
 //! The comparison itself: libraries that are wrong in one call are told from the reference.
 
+mod messages;
 mod segments;
 mod walk;
 

@@ -20,6 +20,7 @@ pub const NOT_HELD: u32 = 10;
 pub const NOT_IN_ORDER: u32 = 11;
 pub const WRONG_STRIDE: u32 = 12;
 // 13 is not given, and no other refusal takes the number.
+pub const BAD_MESSAGE: u32 = 14;
 
 unsafe extern "C" {
     pub fn mft_file_read(file: *const u8, file_size: usize, list: *mut u32, list_words: usize, answer: *mut u32)
@@ -160,6 +161,23 @@ unsafe extern "C" {
         plain: *const u16,
         plain_count: usize,
         entry: u32,
+        answer: *mut u32,
+    ) -> u32;
+
+    pub fn mft_message_apply(
+        message: *const u8,
+        message_size: usize,
+        port: u32,
+        rows: *mut u32,
+        row_words: usize,
+        n: u32,
+        answer: *mut u32,
+    ) -> u32;
+    pub fn mft_message_write(
+        list: *const u32,
+        list_words: usize,
+        message: *mut u8,
+        message_size: usize,
         answer: *mut u32,
     ) -> u32;
 }

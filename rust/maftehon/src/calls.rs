@@ -180,3 +180,19 @@ pub fn segments_entries(packed: &[u16], plain: &[u16], entry: u32) -> Reply<3> {
         sys::mft_segments_entries(packed.as_ptr(), packed.len(), plain.as_ptr(), plain.len(), entry, answer)
     })
 }
+
+/// Applies an UPDATE message to a table, its announced prefixes with this port; takes about 80 KB of stack.
+/// Answer: place, n.
+pub fn message_apply(message: &[u8], port: u32, rows: &mut [u32], n: u32) -> Reply<2> {
+    let (words, row_words) = (rows.as_mut_ptr(), rows.len());
+    reply(|answer| unsafe {
+        sys::mft_message_apply(message.as_ptr(), message.len(), port, words, row_words, n, answer)
+    })
+}
+
+/// Writes the UPDATE message that withdraws the prefixes of a list. Answer: place, bytes written.
+pub fn message_write(list: &[u32], message: &mut [u8]) -> Reply<2> {
+    reply(|answer| unsafe {
+        sys::mft_message_write(list.as_ptr(), list.len(), message.as_mut_ptr(), message.len(), answer)
+    })
+}

@@ -1,7 +1,8 @@
 //! The proved route library of the floor gateway, for Rust programs.
 //!
 //! [`RouteList`], [`Table`], [`Image`] and [`SegmentTables`] own their memory and are always valid, so that most calls
-//! cannot be refused; what can be answers a [`Refusal`] and changes nothing. A [`Route`] and its [`Prefix`] are read
+//! cannot be refused; what can be answers a [`Refusal`] and changes nothing. A table takes routes one by one, or by the
+//! UPDATE message of RFC 4271, and a list gives the message that withdraws it. A [`Route`] and its [`Prefix`] are read
 //! from the text that they print, and a text that is none answers a [`ParseError`]. [`calls`] has the calls of the C
 //! boundary one for one, on memory that the caller lends, and [`sys`] the boundary itself, with its numbers by name.
 //!

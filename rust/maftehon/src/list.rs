@@ -12,6 +12,9 @@ pub const ROUTES_LAST: usize = 4096;
 const FILE_HEAD_BYTES: usize = 5;
 const FILE_ROUTE_BYTES_LAST: usize = 7;
 
+/// The most bytes of a message.
+const MESSAGE_BYTES_LAST: usize = 4096;
+
 /// A valid route list: at most 4,096 routes, ascending by address, then by length.
 ///
 /// ```
@@ -100,6 +103,32 @@ impl RouteList {
         let [_, bytes] = calls::file_write(&self.words, &mut file).done();
         file.truncate(bytes as usize);
         file
+    }
+
+    /// The UPDATE message of RFC 4271 that withdraws the prefixes of this list, and does nothing else.
+    ///
+    /// ```
+    /// use maftehon::{RouteList, Table};
+    ///
+    /// let list = RouteList::from_routes(&["10.0.0.0/8 7".parse()?, "10.1.0.0/16 9".parse()?])?;
+    /// let message = list.withdrawal()?;
+    /// // The marker, 28 bytes in all, type 2, five bytes of withdrawn prefixes, and no attributes.
+    /// assert_eq!(message[16..], [0, 28, 2, 0, 5, 8, 10, 16, 10, 1, 0, 0]);
+    ///
+    /// let mut table = Table::build(&list, 2)?;
+    /// table.apply(&message, 1)?;
+    /// assert!(table.is_empty());
+    /// # Ok::<(), Box<dyn std::error::Error>>(())
+    /// ```
+    ///
+    /// # Errors
+    ///
+    /// - 9, [`Refusal::NoRoom`]: the message would have over 4,096 bytes.
+    pub fn withdrawal(&self) -> Result<Vec<u8>, Refusal> {
+        let mut message = vec![0; MESSAGE_BYTES_LAST];
+        let [_, bytes] = calls::message_write(&self.words, &mut message).of_list()?;
+        message.truncate(bytes as usize);
+        Ok(message)
     }
 
     /// The port of the longest route that matches, by going through all of them.

@@ -7,13 +7,19 @@ use std::fmt;
 /// Where a refusal points.
 #[derive(Clone, Copy, PartialEq, Eq, Debug)]
 pub enum Place {
-    /// The file, the list or the call as a whole: place 0.
+    /// The file, the list, the message or the call as a whole: place 0.
     Whole,
     /// The route with this number, from 0, of a list.
     Route(u32),
     /// The route whose first byte has this offset in a file.
     Byte(u32),
+    /// The field or the prefix whose first byte has this offset in a message.
+    MessageByte(u32),
 }
+
+/// Where the length and the type of a message stand. Refused 14, a later byte asks for more bytes than there are.
+const MESSAGE_LENGTH_AT: u32 = 16;
+const MESSAGE_TYPE_AT: u32 = 18;
 
 /// Why a call was refused: the published list, in its order. A refused call has changed nothing. No call answers 13, and
 /// no other refusal will take the number: it was for more than 8,193 runs, which 4,096 routes cannot have.
@@ -37,7 +43,7 @@ pub enum Refusal {
     WrongSize(Place),
     /// 4: a prefix length is above 32.
     LongPrefix(Place),
-    /// 5: bits are set past the prefix length. In a file they are cleared, and are no fault.
+    /// 5: bits are set past the prefix length. In a file or a message they are cleared, and are no fault.
     SpareBits(Place),
     /// 6: a port is outside 1..4094.
     WrongPort(Place),
@@ -45,7 +51,7 @@ pub enum Refusal {
     NotAbove(Place),
     /// 8: more than 4,096 routes.
     TooManyRoutes(Place),
-    /// 9: no room for what is to be written, or the table is full.
+    /// 9: no room for what is to be written, the table is full, or a message would have over 4,096 bytes.
     NoRoom,
     /// 10: the withdrawn prefix is not held.
     NotHeld,
@@ -53,6 +59,8 @@ pub enum Refusal {
     NotInOrder,
     /// 12: the stride is not 1, 2 or 4.
     WrongStride,
+    /// 14: the bytes are no UPDATE message, or a part or a prefix of it runs past its end.
+    BadMessage(Place),
 }
 
 impl Refusal {
@@ -72,11 +80,12 @@ impl Refusal {
             Refusal::NotHeld,
             Refusal::NotInOrder,
             Refusal::WrongStride,
+            Refusal::BadMessage(place),
         ];
         all.into_iter().find(|refusal| refusal.number() == number)
     }
 
-    /// The published number, 1 to 12.
+    /// The published number, 1 to 12 or 14.
     pub fn number(self) -> u32 {
         match self {
             Refusal::ShortFile => sys::SHORT_FILE,
@@ -91,14 +100,16 @@ impl Refusal {
             Refusal::NotHeld => sys::NOT_HELD,
             Refusal::NotInOrder => sys::NOT_IN_ORDER,
             Refusal::WrongStride => sys::WRONG_STRIDE,
+            Refusal::BadMessage(_) => sys::BAD_MESSAGE,
         }
     }
 
-    /// The published place: the route's number in a list, its first byte's offset in a file, otherwise 0.
+    /// The published place: the route's number in a list, its first byte's offset in a file, the offset of a field or a
+    /// prefix in a message, otherwise 0.
     pub fn place(self) -> u32 {
         match self.pointed_at() {
             Place::Whole => 0,
-            Place::Route(place) | Place::Byte(place) => place,
+            Place::Route(place) | Place::Byte(place) | Place::MessageByte(place) => place,
         }
     }
 
@@ -109,7 +120,8 @@ impl Refusal {
             | Refusal::SpareBits(place)
             | Refusal::WrongPort(place)
             | Refusal::NotAbove(place)
-            | Refusal::TooManyRoutes(place) => place,
+            | Refusal::TooManyRoutes(place)
+            | Refusal::BadMessage(place) => place,
             _ => Place::Whole,
         }
     }
@@ -129,6 +141,14 @@ impl Refusal {
             Refusal::NotHeld => "the prefix to withdraw is not in the table",
             Refusal::NotInOrder => "the table, image or segment tables are damaged; build them again from the list",
             Refusal::WrongStride => "the stride is not 1, 2 or 4",
+            Refusal::BadMessage(Place::MessageByte(MESSAGE_LENGTH_AT)) => {
+                "the length is outside 23 to 4096, or not the number of bytes; the message may be cut off"
+            }
+            Refusal::BadMessage(Place::MessageByte(MESSAGE_TYPE_AT)) => "the type is not 2, which UPDATE has",
+            Refusal::BadMessage(Place::MessageByte(_)) => {
+                "more bytes are to follow than are left in the message, or in the part of it that this is in"
+            }
+            Refusal::BadMessage(_) => "this is no UPDATE message: it has under 23 bytes, or no marker of 16 bytes 255",
         }
     }
 }
@@ -139,6 +159,7 @@ impl fmt::Display for Refusal {
             Place::Whole => {}
             Place::Route(number) => write!(formatter, "route {number}: ")?,
             Place::Byte(offset) => write!(formatter, "route at byte {offset}: ")?,
+            Place::MessageByte(offset) => write!(formatter, "byte {offset} of the message: ")?,
         }
         write!(formatter, "{} (refusal {})", self.text(), self.number())
     }
@@ -158,6 +179,11 @@ impl<const N: usize> Reply<N> {
     /// Of a call on a file: no route begins at offset 0.
     pub(crate) fn of_file(self) -> Result<[u32; N], Refusal> {
         self.result(if self.answer[0] == 0 { Place::Whole } else { Place::Byte(self.answer[0]) })
+    }
+
+    /// Of a call on a message: neither a prefix nor a field but the marker stands at offset 0.
+    pub(crate) fn of_message(self) -> Result<[u32; N], Refusal> {
+        self.result(if self.answer[0] == 0 { Place::Whole } else { Place::MessageByte(self.answer[0]) })
     }
 
     /// Of a call on a list: only 4 to 7 name a route, which may be number 0.

@@ -1,4 +1,4 @@
-//! The table: a priority trie that takes announcements and withdrawals.
+//! The table: a priority trie that takes announcements and withdrawals, one by one or by the message.
 
 use crate::calls;
 use crate::list::{room_for_runs, RouteList, ROUTES_LAST};
@@ -71,6 +71,52 @@ impl Table {
     pub fn withdraw(&mut self, prefix: Prefix) -> Result<(), Refusal> {
         let [value, length] = prefix.words();
         let [_, n] = calls::table_withdraw(&mut self.rows, self.n, value, length).of_whole()?;
+        self.n = n;
+        Ok(())
+    }
+
+    /// Applies an UPDATE message of RFC 4271, whole or not at all. What it withdraws and does not announce too is taken
+    /// out, where it is held; then what it announces is added or gets the new port, which is one for all. Bits of a
+    /// prefix past its length are cleared, and path attributes are passed over. A message with neither prefixes nor
+    /// attributes, the End-of-RIB, changes nothing. The call takes about 80 KB of stack.
+    ///
+    /// ```
+    /// use maftehon::{Place, Refusal, Table};
+    /// use std::net::Ipv4Addr;
+    ///
+    /// let mut table = Table::with_capacity(2);
+    /// table.announce("10.0.0.0/8 7".parse()?)?;
+    /// // 29 bytes: 10.0.0.0/8 is withdrawn, there are no attributes, and 10.1.0.0/16 and the whole space are announced.
+    /// let marker = [255; 16];
+    /// let message = [&marker[..], &[0, 29, 2], &[0, 2, 8, 10], &[0, 0], &[16, 10, 1, 0]].concat();
+    /// table.apply(&message, 9)?;
+    /// let held: Vec<String> = table.save().routes().map(|route| route.to_string()).collect();
+    /// assert_eq!(held, ["0.0.0.0/0 9", "10.1.0.0/16 9"]);
+    ///
+    /// // One byte less: the length, at byte 16, is not that of the message, and nothing changes.
+    /// let refusal = table.apply(&message[..28], 9).unwrap_err();
+    /// assert_eq!(refusal, Refusal::BadMessage(Place::MessageByte(16)));
+    /// assert_eq!(table.lookup(Ipv4Addr::new(10, 2, 3, 4)).port, Some(9));
+    /// # Ok::<(), Box<dyn std::error::Error>>(())
+    /// ```
+    ///
+    /// # Errors
+    ///
+    /// - 14, [`Refusal::BadMessage`]: there are under 23 bytes, the marker is not all ones, the length is below 23, above
+    ///   4,096 or not the number of bytes, the type is not 2, or an inner length runs past the end. The place is the
+    ///   field.
+    ///
+    /// Then the first prefix that is wrong, the withdrawn ones before the announced ones, whose first byte is the place:
+    ///
+    /// - 4, [`Refusal::LongPrefix`]: the length is above 32.
+    /// - 14, [`Refusal::BadMessage`]: it runs past the end of its part.
+    ///
+    /// Then:
+    ///
+    /// - 6, [`Refusal::WrongPort`]: the port is outside 1..4094, also where nothing is announced.
+    /// - 9, [`Refusal::NoRoom`]: the table would hold more routes in the end than it has room for.
+    pub fn apply(&mut self, message: &[u8], port: u16) -> Result<(), Refusal> {
+        let [_, n] = calls::message_apply(message, port.into(), &mut self.rows, self.n).of_message()?;
         self.n = n;
         Ok(())
     }

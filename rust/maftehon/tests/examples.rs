@@ -1,10 +1,12 @@
-//! The text sources in `examples` say exactly what the route files beside them hold, and the stored pages are the reference's.
+//! The text sources in `examples` say exactly what the route files beside them hold, the stored pages are the
+//! reference's, and the messages leave what the lines after them say.
 
-use maftehon::{Route, RouteList};
+use maftehon::{Route, RouteList, Table};
 use reference::runs_text;
 use std::fs;
 use std::path::{Path, PathBuf};
 use workload::clear_spare_bits;
+use workload::messages::captured;
 
 const EXAMPLES: &str = concat!(env!("CARGO_MANIFEST_DIR"), "/../../examples");
 const REFUSED: &str = concat!(env!("CARGO_MANIFEST_DIR"), "/../../examples/refused");
@@ -74,5 +76,17 @@ fn every_file_in_refused_is_refused() {
     for file in route_files(REFUSED) {
         let page = fs::read(file.with_extension("runs")).expect("the file can be read");
         assert!(page.starts_with(b"refused "), "{}", file.display());
+    }
+}
+
+#[test]
+fn every_message_leaves_what_the_line_after_it_says() {
+    for sent in captured() {
+        let mut table = Table::with_capacity(6);
+        for (number, (message, expected)) in sent.messages.iter().enumerate() {
+            assert_eq!(table.apply(message, 9), Ok(()), "{}, message {number}", sent.daemon);
+            let words = expected.iter().flat_map(|(value, length)| [*value, *length, 9]).collect();
+            assert_eq!(Ok(table.save()), RouteList::from_words(words), "{}, message {number}", sent.daemon);
+        }
     }
 }

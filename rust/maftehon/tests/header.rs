@@ -87,7 +87,7 @@ fn in_capitals(variant: &str) -> String {
 fn the_declarations_are_those_of_the_header() {
     let header = declared(HEADER, "uint32_t mft_", in_rust);
     let rust = declared(SYS, "pub fn mft_", str::to_string);
-    assert_eq!(header.len(), 20);
+    assert_eq!(header.len(), 22);
     assert_eq!(rust, header);
     assert_eq!(SYS.matches("-> u32;").count(), rust.len());
 }
@@ -95,7 +95,7 @@ fn the_declarations_are_those_of_the_header() {
 #[test]
 fn the_numbers_are_those_of_the_header_in_every_language() {
     let header = numbers_of_the_header();
-    assert_eq!(header.len(), 13);
+    assert_eq!(header.len(), 14);
     assert_eq!(constants(SYS), header);
     assert_eq!(constants(REFERENCE_REFUSALS), header);
     // Rattle has bounds beside its refusals, and no name for 0.

@@ -126,6 +126,60 @@ fn the_worst_list_is_built_at_every_stride_and_into_segment_tables() {
     }
 }
 
+/// A message of these parts, which are given as bytes; there are no attributes.
+fn message_with(withdrawn: &[u8], announced: &[u8]) -> Vec<u8> {
+    let size = 23 + withdrawn.len() + announced.len();
+    let head = [&[255; 16][..], &(size as u16).to_be_bytes(), &[2], &(withdrawn.len() as u16).to_be_bytes()];
+    [&head.concat()[..], withdrawn, &[0, 0], announced].concat()
+}
+
+#[test]
+fn a_message_takes_routes_out_and_puts_routes_in() {
+    let mut table = Table::build(&floor(), 4).expect("room for four routes");
+    // 10.1.0.0/16 out, and a prefix that is not held; 10.1.2.0/24 and, with spare bits, 192.168.0.0/23 in.
+    let message = message_with(&[16, 10, 1, 8, 77], &[24, 10, 1, 2, 23, 192, 168, 1]);
+    assert_eq!(table.apply(&message, 5), Ok(()));
+    let routes: Vec<String> = table.save().routes().map(|route| route.to_string()).collect();
+    assert_eq!(routes, ["10.0.0.0/8 7", "10.1.2.0/24 5", "192.168.0.0/23 5"]);
+    assert_eq!(table.len(), 3);
+    // The End-of-RIB changes nothing.
+    let before = table.clone();
+    assert_eq!(table.apply(&message_with(&[], &[]), 5), Ok(()));
+    assert_eq!(table, before);
+}
+
+#[test]
+fn a_refused_message_changes_nothing() {
+    let mut table = Table::build(&floor(), 3).expect("room for three routes");
+    let before = table.clone();
+    let at = Place::MessageByte;
+    let one_in = message_with(&[], &[8, 11]);
+    assert_eq!(table.apply(&one_in, 5), Err(Refusal::NoRoom));
+    for port in [0, 4095, u16::MAX] {
+        assert_eq!(table.apply(&one_in, port), Err(Refusal::WrongPort(Place::Whole)));
+    }
+    assert_eq!(table.apply(&one_in[..22], 5), Err(Refusal::BadMessage(Place::Whole)));
+    assert_eq!(table.apply(&one_in[..24], 5), Err(Refusal::BadMessage(at(16))));
+    assert_eq!(table.apply(&message_with(&[8, 10], &[33]), 5), Err(Refusal::LongPrefix(at(25))));
+    assert_eq!(table.apply(&message_with(&[9, 10], &[]), 5), Err(Refusal::BadMessage(at(21))));
+    assert_eq!(table, before);
+}
+
+#[test]
+fn the_withdrawal_of_a_list_empties_its_table_and_none_is_longer_than_4096_bytes() {
+    let message = floor().withdrawal().expect("a short list");
+    assert_eq!(message, message_with(&[8, 10, 16, 10, 1, 24, 10, 1, 2], &[]));
+    let mut table = Table::build(&floor(), 3).expect("room for three routes");
+    assert_eq!((table.apply(&message, 1), table.len()), (Ok(()), 0));
+    assert_eq!(RouteList::default().withdrawal(), Ok(message_with(&[], &[])));
+    // Routes of 24 bits take four bytes each: 1,018 of them, and 23 bytes, are 4,095.
+    let list_of = |count: u32| {
+        RouteList::from_words((0..count).flat_map(|value| [value << 8, 24, 1]).collect()).expect("a valid list")
+    };
+    assert_eq!(list_of(1018).withdrawal().map(|message| message.len()), Ok(4095));
+    assert_eq!(list_of(1019).withdrawal(), Err(Refusal::NoRoom));
+}
+
 #[test]
 fn a_refused_update_changes_nothing() {
     let mut table = Table::build(&floor(), 3).expect("room for three routes");
@@ -179,4 +233,30 @@ fn a_refusal_says_where_and_why() {
         "route 1: the route is not above the one before it; sort by address, then by length (refusal 7)"
     );
     assert_eq!(Stride::try_from(3).expect_err("refused").to_string(), "the stride is not 1, 2 or 4 (refusal 12)");
+}
+
+#[test]
+fn a_refusal_of_a_message_says_where_and_why() {
+    let text = |message: &[u8]| Table::with_capacity(1).apply(message, 1).expect_err("refused").to_string();
+    let mut message = message_with(&[8, 10], &[]);
+    assert_eq!(
+        text(&message[..22]),
+        "this is no UPDATE message: it has under 23 bytes, or no marker of 16 bytes 255 (refusal 14)"
+    );
+    assert_eq!(
+        text(&message[..24]),
+        "byte 16 of the message: the length is outside 23 to 4096, or not the number of bytes; the message may be cut \
+         off (refusal 14)"
+    );
+    let runs_past = "more bytes are to follow than are left in the message, or in the part of it that this is in";
+    message[20] = 3;
+    assert_eq!(text(&message), format!("byte 19 of the message: {runs_past} (refusal 14)"));
+    message[20] = 1;
+    assert_eq!(text(&message), format!("byte 22 of the message: {runs_past} (refusal 14)"));
+    message[20..22].copy_from_slice(&[2, 9]);
+    assert_eq!(text(&message), format!("byte 21 of the message: {runs_past} (refusal 14)"));
+    message[21] = 33;
+    assert_eq!(text(&message), "byte 21 of the message: the prefix length is above 32 (refusal 4)");
+    message[18] = 4;
+    assert_eq!(text(&message), "byte 18 of the message: the type is not 2, which UPDATE has (refusal 14)");
 }

@@ -1,7 +1,7 @@
 //! The route file, reader and writer: rules, "The route file".
 
 use crate::list::{check_above, list_of, routes_of, ROUTES_LAST};
-use crate::prefix::{check_length, cleared, Route};
+use crate::prefix::{check_length, cleared, Prefix, Route};
 use crate::refusal::{refuse, write_out, Answer, Refusal, SHORT_FILE, TOO_MANY_ROUTES, WRONG_SIZE, WRONG_VERSION};
 
 const VERSION: u8 = 1;
@@ -80,13 +80,14 @@ fn read_route(file: &[u8], at: usize) -> Result<(Route, usize), Refusal> {
 }
 
 /// The fewest bytes that hold that many bits.
-fn prefix_bytes(length: u32) -> usize {
+pub(crate) fn prefix_bytes(length: u32) -> usize {
     length.div_ceil(8) as usize
 }
 
 /// A prefix value whose first bytes are given and whose other bytes are zero. A file may have any bits past the length
-/// in the last byte: they say nothing, so they are cleared before the order is looked at, and 5 does not arise.
-fn value_of(first: &[u8], length: u32) -> u32 {
+/// in the last byte: they say nothing, so they are cleared before the order is looked at, and 5 does not arise. So too
+/// in a message.
+pub(crate) fn value_of(first: &[u8], length: u32) -> u32 {
     let mut bytes = [0; 4];
     bytes[..first.len()].copy_from_slice(first);
     cleared(u32::from_be_bytes(bytes), length)
@@ -101,9 +102,15 @@ fn file_of(routes: &[Route]) -> Vec<u8> {
 }
 
 fn bytes_of(route: Route) -> Vec<u8> {
-    let length = route.prefix.length();
-    let mut bytes = vec![length as u8];
-    bytes.extend(&route.prefix.value().to_be_bytes()[..prefix_bytes(length)]);
+    let mut bytes = bytes_of_prefix(route.prefix);
     bytes.extend((route.port as u16).to_be_bytes());
+    bytes
+}
+
+/// The length, and then the first bytes of the value.
+pub(crate) fn bytes_of_prefix(prefix: Prefix) -> Vec<u8> {
+    let length = prefix.length();
+    let mut bytes = vec![length as u8];
+    bytes.extend(&prefix.value().to_be_bytes()[..prefix_bytes(length)]);
     bytes
 }

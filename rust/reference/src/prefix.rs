@@ -56,6 +56,13 @@ pub(crate) fn check_length(length: u32, place: u32) -> Result<(), Refusal> {
     Ok(())
 }
 
+pub(crate) fn check_port(port: u32, place: u32) -> Result<(), Refusal> {
+    if !(PORT_FIRST..=PORT_LAST).contains(&port) {
+        return refuse(WRONG_PORT, place);
+    }
+    Ok(())
+}
+
 impl Prefix {
     /// The prefix of length 0: the whole address space.
     pub const WHOLE: Prefix = Prefix { value: 0, length: 0 };
@@ -117,9 +124,7 @@ impl Route {
     /// 4 and 5 for its prefix, then 6 for a port outside 1..4094, each at `place`.
     pub fn checked(value: u32, length: u32, port: u32, place: u32) -> Result<Route, Refusal> {
         let prefix = Prefix::checked(value, length, place)?;
-        if !(PORT_FIRST..=PORT_LAST).contains(&port) {
-            return refuse(WRONG_PORT, place);
-        }
+        check_port(port, place)?;
         Ok(Route { prefix, port })
     }
 }

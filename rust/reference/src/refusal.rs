@@ -14,6 +14,7 @@ pub const NOT_HELD: u32 = 10;
 pub const NOT_IN_ORDER: u32 = 11;
 pub const WRONG_STRIDE: u32 = 12;
 // 13 is not given, and no other refusal takes the number.
+pub const BAD_MESSAGE: u32 = 14;
 
 /// A refusal's number and its place.
 #[derive(Clone, Copy, PartialEq, Eq, Debug)]

@@ -61,7 +61,7 @@ pub(crate) fn routes_of_table(rows: &[u32], n: u32) -> Result<Vec<Route>, Refusa
 }
 
 /// The smaller of 4,096 and the number of whole rows lent.
-fn capacity(rows: &[u32]) -> u32 {
+pub(crate) fn capacity(rows: &[u32]) -> u32 {
     ROUTES_LAST.min(rows.len() / ROW_WORDS) as u32
 }
 
@@ -184,7 +184,7 @@ fn write_table(table: &Table, rows: &mut [u32]) {
     }
 }
 
-fn announce(rows: &mut [u32], n: u32, route: Route) -> Result<[u32; 1], Refusal> {
+pub(crate) fn announce(rows: &mut [u32], n: u32, route: Route) -> Result<[u32; 1], Refusal> {
     let Table { trie, mut row_of } = in_good_order(rows, n)?;
     let mut routes = routes_without(&trie, route.prefix);
     let is_new = routes.len() == trie.len();
@@ -201,7 +201,7 @@ fn announce(rows: &mut [u32], n: u32, route: Route) -> Result<[u32; 1], Refusal>
     Ok([n + u32::from(is_new)])
 }
 
-fn withdraw(rows: &mut [u32], n: u32, prefix: Prefix) -> Result<[u32; 1], Refusal> {
+pub(crate) fn withdraw(rows: &mut [u32], n: u32, prefix: Prefix) -> Result<[u32; 1], Refusal> {
     let Table { trie: before, mut row_of } = in_good_order(rows, n)?;
     let routes = routes_without(&before, prefix);
     if routes.len() == before.len() {

@@ -1,6 +1,7 @@
-//! Damage to lists, files, rows, images and segment tables, of the kinds that a check could overlook: one thing made
-//! another that could pass for it, parts exchanged, ends cut off.
+//! Damage to lists, files, rows, images, segment tables and messages, of the kinds that a check could overlook: one thing
+//! made another that could pass for it, parts exchanged, ends cut off.
 
+use crate::messages::{prefix_bytes, BYTES_FIRST, LENGTH_AT, TYPE_AT, WITHDRAWN_AT, WITHDRAWN_LENGTH_AT};
 use crate::random::Random;
 use crate::segments::{Stores, LAST_POINTER, PACKED_POINTER, PLAIN_POINTER};
 use crate::segments::{CODEWORDS, OCTET_ENTRIES, PACKED_WORDS};
@@ -61,6 +62,93 @@ fn restate_size(file: &mut [u8]) {
     if file.len() >= FILE_HEAD_BYTES {
         let size = (file.len() - FILE_HEAD_BYTES) as u32;
         file[1..FILE_HEAD_BYTES].copy_from_slice(&size.to_be_bytes());
+    }
+}
+
+/// Damages a message in one place, or cuts it, or makes it longer; sometimes its length follows. An inner length comes to
+/// end its part in a prefix or at another one, and a prefix to run past its part.
+pub fn damage_message(message: &mut Vec<u8>, random: &mut Random) {
+    if message.is_empty() {
+        message.push(255);
+        return;
+    }
+    let [at, other] = [random.index(message.len()), random.index(message.len())];
+    match random.below(12) {
+        0 => message[at] ^= 1 << random.below(8),
+        1 => message[at] = random.pick(&[0, 1, 2, 8, 24, 32, 33, 255]),
+        2 => message.swap(at, other),
+        3 => message.truncate(at),
+        4 => message.extend((0..=random.below(4)).map(|_| random.word() as u8)),
+        5 => message.drain(at.min(other)..at.max(other)).for_each(drop),
+        6 => put_byte(message, random.index(WITHDRAWN_AT + 2), random.pick(&[0, 1, 3, 254])),
+        7 => put_byte(message, TYPE_AT, random.pick(&[0, 1, 3, 4, 5, 255])),
+        8..=9 => damage_length(message, random),
+        _ => damage_prefix_length(message, random),
+    }
+    if random.below(2) == 0 {
+        restate_length(message);
+    }
+}
+
+/// Past the end nothing is put.
+fn put_byte(message: &mut [u8], at: usize, byte: u8) {
+    if let Some(place) = message.get_mut(at) {
+        *place = byte;
+    }
+}
+
+fn length_at(message: &[u8], at: usize) -> Option<usize> {
+    Some(usize::from(u16::from_be_bytes([*message.get(at)?, *message.get(at + 1)?])))
+}
+
+/// Makes one of the three lengths another: one more or less, or one at an edge of what it may say.
+fn damage_length(message: &mut [u8], random: &mut Random) {
+    let Some(withdrawn) = length_at(message, WITHDRAWN_LENGTH_AT) else { return };
+    let attribute_length_at = WITHDRAWN_AT + withdrawn;
+    let at = random.pick(&[LENGTH_AT, WITHDRAWN_LENGTH_AT, WITHDRAWN_LENGTH_AT, attribute_length_at]);
+    let Some(length) = length_at(message, at) else { return };
+    // Up to the end of the message there are as many bytes, and two less where another length is to follow.
+    let left = message.len().saturating_sub(at + 2) as u16;
+    let length = length as u16;
+    let about = [length.wrapping_sub(1), length.wrapping_add(1), length.wrapping_add(256)];
+    let edges = [0, left, left.wrapping_add(1), left.wrapping_sub(1), left.wrapping_sub(2), 22, 23, 4096, 4097];
+    let length = if random.below(2) == 0 { random.pick(&about) } else { random.pick(&edges) };
+    message[at..at + 2].copy_from_slice(&length.to_be_bytes());
+}
+
+/// Makes the length of a prefix another, with as many bytes, with more or with fewer, or above 32.
+fn damage_prefix_length(message: &mut [u8], random: &mut Random) {
+    let places = prefix_places(message);
+    if places.is_empty() {
+        return;
+    }
+    let place = random.pick(&places);
+    let length = message[place];
+    message[place] = random.pick(&[0, 32, 33, 255, length.wrapping_add(8), length.wrapping_add(1), length / 2]);
+}
+
+/// Where each prefix begins, as far as the lengths lead. In a damaged message the last one may run past the end.
+fn prefix_places(message: &[u8]) -> Vec<usize> {
+    let mut places = Vec::new();
+    let mut add = |mut place: usize, end: usize| {
+        while place < end.min(message.len()) {
+            places.push(place);
+            place += 1 + prefix_bytes(message[place].into());
+        }
+    };
+    let Some(withdrawn) = length_at(message, WITHDRAWN_LENGTH_AT) else { return places };
+    let attribute_length_at = WITHDRAWN_AT + withdrawn;
+    add(WITHDRAWN_AT, attribute_length_at);
+    if let Some(attributes) = length_at(message, attribute_length_at) {
+        add(attribute_length_at + 2 + attributes, message.len());
+    }
+    places
+}
+
+fn restate_length(message: &mut [u8]) {
+    if message.len() >= BYTES_FIRST {
+        let length = message.len() as u16;
+        message[LENGTH_AT..LENGTH_AT + 2].copy_from_slice(&length.to_be_bytes());
     }
 }
 

@@ -1,14 +1,17 @@
-//! What the tests and the tools feed to a route library: seeded random numbers, sets of routes, damage to the lists,
-//! files, rows, images and segment tables that are made of them, and spare bits in files. Nothing here knows a library.
+//! What the tests and the tools feed to a route library: seeded random numbers, sets of routes, messages about them,
+//! damage to the lists, files, rows, images, segment tables and messages that are made of them, and spare bits in files.
+//! Nothing here knows a library.
 
 mod damage;
+pub mod messages;
 mod random;
 mod routes;
 pub mod segments;
 mod sets;
 mod spare;
 
-pub use damage::{damage_file, damage_image, damage_list, damage_rows, damage_segments};
+pub use damage::{damage_file, damage_image, damage_list, damage_message, damage_rows, damage_segments};
+pub use messages::Message;
 pub use random::Random;
 pub use routes::{first_bits_of, full_length_list, list_of, Held, Prefix};
 pub use sets::Kind;

@@ -1,18 +1,22 @@
 use Prim.Native.Nat.{_-_}
 use native.Mathlib.Omega.{arith}
 use borrow.Author.Needs.{needs}
-use Rattle.file_write.proofs.Bodies.{Summed, summed-none, summed-small, summed-more, summed-all}
+use Rattle.routes.specs.Routes.{routeAt, routeCount}
+use Rattle.octets.proofs.Parts.{summed-none, summed-more}
+use Rattle.file_write.proofs.Bodies.{routeCoding, Counted, counted-small, counted-all}
 use Rattle.file_write.proofs.body_size.Statement.{statement}
 use Rattle.file_write.proofs.body_size.Tie as tie
 
 abbrev Inv-loop : tie.InvT-loop
-Inv-loop list n size₀ i₀ size i = Summed 32 list size i
+Inv-loop list n size₀ i₀ size i = Counted 32 list size i
 
 abbrev μ-loop : tie.MeasureT-loop
 μ-loop list n size₀ i₀ size i = n - i
 
 loop-holds : tie.Need-loop-holds Inv-loop μ-loop
-loop-holds c = summed-none 32 (c .before .args .list .now)
+loop-holds c =
+    let list = c .before .args .list .now in
+    summed-none (routeCoding 32) (routeAt list) (routeCount list)
 
 route-at-requires : tie.Need-route-at-requires Inv-loop μ-loop
 route-at-requires c κs = search needs
@@ -24,7 +28,7 @@ add-size : tie.Need-add-size Inv-loop μ-loop
 add-size c =
     let l = c .before .before .before in
     let s = l .before .before in
-    omega (arith, summed-small 32 (s .args .list .now) (s .pre) _ _ (l .loop .inv), c .route-size .ensures .small)
+    omega (arith, counted-small 32 (s .args .list .now) (s .pre) _ _ (l .loop .inv), c .route-size .ensures .small)
 
 add-i : tie.Need-add-i Inv-loop μ-loop
 add-i c = omega arith
@@ -35,14 +39,14 @@ loop-less c = omega arith
 loop-again : tie.Need-loop-again Inv-loop μ-loop
 loop-again c =
     let l = c .before .before .before in
-    let s = l .before .before in
-    summed-more 32 (s .args .list .now) (s .pre) _ _ (l .loop .inv) (c .before .before .loop-test .taken) _ _ (c .before .route-at .ensures) (c .route-size .ensures .is)
+    let list = l .before .before .args .list .now in
+    summed-more (routeCoding 32) (routeAt list) (routeCount list) _ _ (l .loop .inv) (c .before .before .loop-test .taken) _ _ (c .before .route-at .ensures) (c .route-size .ensures .is)
 
 returns : tie.Need-returns Inv-loop μ-loop
 returns c =
     let l = c .before in
     let s = l .before .before in
-    summed-all 32 (s .args .list .now) (s .pre) _ _ (l .loop .inv) (c .loop-test .left)
+    counted-all 32 (s .args .list .now) (s .pre) _ _ (l .loop .inv) (c .loop-test .left)
 
 pub body-size-spec : {M : Type 1} → statement M
 body-size-spec =

@@ -1,7 +1,10 @@
 use Prim.Native.Nat.{_-_}
 use native.Mathlib.Omega.{arith}
 use borrow.Author.Needs.{needs}
-use Rattle.file_write.proofs.Bodies.{Bodied, bodied-none, bodied-room, bodied-next, bodied-more, bodied-all}
+use Rattle.routes.specs.Routes.{routeAt, routeCount}
+use Rattle.octets.proofs.Parts.{laid-none, laid-next, laid-more, laid-all}
+use Rattle.file_rules.specs.File.{headSize}
+use Rattle.file_write.proofs.Bodies.{routeCoding, Bodied, bodied-room}
 use Rattle.file_write.proofs.put_body.Statement.{statement}
 use Rattle.file_write.proofs.put_body.Tie as tie
 
@@ -14,7 +17,8 @@ abbrev μ-loop : tie.MeasureT-loop
 loop-holds : tie.Need-loop-holds Inv-loop μ-loop
 loop-holds c =
     let a = c .before .before .args in
-    bodied-none 32 (a .list .now) (a .file .now)
+    let list = a .list .now in
+    laid-none (routeCoding 32) (routeAt list) (routeCount list) headSize (a .file .now)
 
 route-at-requires : tie.Need-route-at-requires Inv-loop μ-loop
 route-at-requires c κs = search needs
@@ -34,7 +38,8 @@ add-at c =
     let x = c .before .before .before .before .before in
     let l = x .before .before in
     let s = l .before .before .before in
-    omega (arith, bodied-next 32 (s .args .list .now) (s .args .file .now) (s .pre) _ _ _ (l .loop .inv) (x .before .loop-test .taken) _ _ (x .route-at .ensures) (c .route-size .ensures .is), l .loop .inv .same)
+    let list = s .args .list .now in
+    omega (arith, laid-next (routeCoding 32) (routeAt list) (routeCount list) headSize (s .args .file .now) (s .pre .room) _ _ _ (l .loop .inv) (x .before .loop-test .taken) _ _ (x .route-at .ensures) (c .route-size .ensures .is), l .loop .inv .same)
 
 add-i : tie.Need-add-i Inv-loop μ-loop
 add-i c = omega arith
@@ -48,7 +53,8 @@ loop-again c =
     let x = p .before .before in
     let l = x .before .before in
     let s = l .before .before .before in
-    bodied-more 32 (s .args .list .now) (s .args .file .now) (s .pre) _ _ _ (l .loop .inv) (x .before .loop-test .taken) _ _ _ (x .route-at .ensures) (c .route-size .ensures .is) (p .put-bytes .ensures)
+    let list = s .args .list .now in
+    laid-more (routeCoding 32) (routeAt list) (routeCount list) headSize (s .args .file .now) (s .pre .room) _ _ _ (l .loop .inv) (x .before .loop-test .taken) _ _ _ (x .route-at .ensures) (c .route-size .ensures .is) (p .put-bytes .ensures)
 
 same-length : tie.Need-same-length Inv-loop μ-loop
 same-length c = c .before .loop .inv .same
@@ -57,7 +63,8 @@ returns : tie.Need-returns Inv-loop μ-loop
 returns c =
     let l = c .before in
     let s = l .before .before .before in
-    bodied-all 32 (s .args .list .now) (s .args .file .now) (s .pre) _ _ _ (l .loop .inv) (c .loop-test .left)
+    let list = s .args .list .now in
+    laid-all (routeCoding 32) (routeAt list) (routeCount list) headSize (s .args .file .now) (s .pre .room) _ _ _ (l .loop .inv) (c .loop-test .left)
 
 pub put-body-spec : {M : Type 1} → statement M
 put-body-spec =

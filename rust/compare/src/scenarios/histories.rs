@@ -1,7 +1,7 @@
-//! Histories of announcements and withdrawals, compared word for word after each call.
+//! Histories of announcements and withdrawals, and of messages among them, compared word for word after each call.
 
 use crate::checker::{Checker, Compared};
-use workload::{Held, Kind, Prefix, Random};
+use workload::{Held, Kind, Message, Prefix, Random};
 
 /// A table under updates, with the routes that it holds.
 struct Gateway {
@@ -39,6 +39,19 @@ impl Gateway {
         Ok(())
     }
 
+    /// A message of a few prefixes, held and from where new ones are drawn. Refused 9, it changes nothing.
+    fn message(&mut self, checker: &mut Checker, random: &mut Random) -> Compared<()> {
+        let mut message = Message::any(random, &self.held, 4);
+        message.announced.extend((0..random.below(3)).map(|_| random.pick(&self.pool)));
+        let port = 1 + random.below(4094);
+        let answer = checker.message_apply(&message.bytes(), port, &mut self.rows, self.n)?;
+        if answer.number == 0 {
+            self.held = message.applied_to(&self.held, port);
+        }
+        self.n = answer.answer[1];
+        checker.table_holds(&self.rows, self.n, &self.held)
+    }
+
     fn held_prefix(&self, random: &mut Random) -> Option<Prefix> {
         self.held.keys().nth(random.index(self.held.len() + 1)).copied()
     }
@@ -69,6 +82,20 @@ pub fn history(checker: &mut Checker, random: &mut Random, capacity: usize, upda
         if let Some(prefix) = gateway.held_prefix(random) {
             gateway.withdraw(checker, prefix)?;
         }
+    }
+    Ok(())
+}
+
+/// From an empty table, or from one nearly full, that many messages, with two updates after each. What is held is compared
+/// after each message too.
+pub fn message_history(checker: &mut Checker, random: &mut Random, capacity: usize, messages: usize) -> Compared<()> {
+    let mut gateway = Gateway::new(random, capacity);
+    if random.below(2) == 0 {
+        fill(checker, random, &mut gateway, capacity)?;
+    }
+    for _ in 0..messages {
+        gateway.message(checker, random)?;
+        (0..2).try_for_each(|_| gateway.update(checker, random))?;
     }
     Ok(())
 }

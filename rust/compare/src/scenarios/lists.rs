@@ -27,6 +27,7 @@ pub fn damaged_lists(checker: &mut Checker, random: &mut Random, most: usize) ->
         checker.list_scan(&list, &addresses(random, &held, 2))?;
         for room in [0, 7 * (list.len() + 3)] {
             checker.file_write(&list, room)?;
+            checker.message_write(&list, room)?;
             checker.table_build(&list, room)?;
             checker.list_runs(&list, room)?;
             checker.image_build(random.pick(&[1, 2, 4, 3]), &list, (room, room))?;

@@ -4,13 +4,15 @@ mod files;
 mod histories;
 mod images;
 mod lists;
+mod messages;
 mod segments;
 mod tables;
 
 pub use files::{damaged_files, noise_files, spared_files, valid_files};
-pub use histories::history;
+pub use histories::{history, message_history};
 pub use images::{damaged_images, valid_images};
 pub use lists::{damaged_lists, valid_lists};
+pub use messages::{damaged_messages, noise_messages, valid_messages, written_messages};
 pub use segments::{damaged_segments, noise_segments, valid_segments};
 pub use tables::{damaged_tables, valid_tables, wrong_arguments};
 
@@ -21,7 +23,7 @@ use workload::{Held, Kind, Random};
 pub type Scenario = fn(&mut Checker, &mut Random, usize) -> Compared<()>;
 
 /// Every scenario, with its name.
-pub const ALL: [(&str, Scenario); 15] = [
+pub const ALL: [(&str, Scenario); 20] = [
     ("valid files", valid_files),
     ("spared files", spared_files),
     ("damaged files", damaged_files),
@@ -36,7 +38,12 @@ pub const ALL: [(&str, Scenario); 15] = [
     ("valid segments", valid_segments),
     ("damaged segments", damaged_segments),
     ("noise segments", noise_segments),
+    ("valid messages", valid_messages),
+    ("damaged messages", damaged_messages),
+    ("noise messages", noise_messages),
+    ("written messages", written_messages),
     ("history", |checker, random, most| history(checker, random, 1 + most / 2, 40)),
+    ("message history", |checker, random, most| message_history(checker, random, 1 + most / 2, 10)),
 ];
 
 /// Sizes of sets, small ones more often: they meet more cases in the same time.

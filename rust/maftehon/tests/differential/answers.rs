@@ -20,6 +20,9 @@ fn assert_answers<const N: usize>(number: u32, answer: [u32; N], call: impl Fn(*
 const LIST: [u32; 3] = [10 << 24, 8, 7];
 const ROW: [u32; 5] = [10 << 24, 8, 7, 0, 0];
 const FILE: [u8; 9] = [1, 0, 0, 0, 4, 8, 10, 0, 7];
+/// The message that withdraws it.
+const MESSAGE: [u8; 25] =
+    [255, 255, 255, 255, 255, 255, 255, 255, 255, 255, 255, 255, 255, 255, 255, 255, 0, 25, 2, 0, 2, 8, 10, 0, 0];
 /// 10.0.0.0/17 to port 7, which makes a segment.
 const LIST_OF_17_BITS: [u32; 3] = [10 << 24, 17, 7];
 
@@ -113,5 +116,27 @@ fn calls_on_segment_tables_write_their_answer_alone() {
         assert_answers(11, [0, 0, 0], |answer| lookup(65_535, 96, 10 << 24, answer));
         assert_answers(0, [0, 32, 64], |answer| mft_segments_entries(packed, 96, plain, 1, 32_768, answer));
         assert_answers(0, [0, 0, 0], |answer| mft_segments_entries(packed, 96, plain, 1, 49_152, answer));
+    }
+}
+
+#[test]
+fn calls_on_messages_write_their_answer_alone() {
+    let (list, message) = (LIST.as_ptr(), MESSAGE.as_ptr());
+    let mut bytes = [0; 30];
+    let bytes = bytes.as_mut_ptr();
+    // SAFETY: every pointer is valid for the size that goes with it, and `answer` overlaps none of them.
+    unsafe {
+        let apply = |size, port, n, answer| {
+            let mut rows = ROW;
+            mft_message_apply(message, size, port, rows.as_mut_ptr(), 5, n, answer)
+        };
+        assert_answers(0, [0, 0], |answer| apply(25, 7, 1, answer));
+        assert_answers(14, [0, 1], |answer| apply(22, 7, 1, answer));
+        assert_answers(14, [16, 1], |answer| apply(24, 7, 1, answer));
+        assert_answers(6, [0, 1], |answer| apply(25, 0, 1, answer));
+        assert_answers(11, [0, 2], |answer| apply(25, 7, 2, answer));
+        assert_answers(0, [0, 25], |answer| mft_message_write(list, 3, bytes, 30, answer));
+        assert_answers(9, [0, 0], |answer| mft_message_write(list, 3, bytes, 24, answer));
+        assert_answers(3, [0, 0], |answer| mft_message_write(list, 2, bytes, 30, answer));
     }
 }

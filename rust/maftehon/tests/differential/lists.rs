@@ -27,6 +27,7 @@ fn lists_about_the_most_routes_are_accepted_and_refused_alike() {
             assert_eq!(checker.list_check(&list)?.number, if count <= 4096 { 0 } else { 8 });
             checker.list_scan(&list, &[0, 4095, 4096])?;
             checker.file_write(&list, 40_000)?;
+            checker.message_write(&list, 40_000)?;
             checker.table_build(&list, 5 * 5000)?;
             checker.list_runs(&list, 30_000)?;
             checker.image_build(4, &list, (2 * 5000, 16 * 5000))?;

@@ -7,6 +7,7 @@ mod files;
 mod histories;
 mod images;
 mod lists;
+mod messages;
 mod refusals;
 mod segments;
 mod tables;

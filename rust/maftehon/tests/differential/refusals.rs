@@ -16,20 +16,30 @@ fn after_all_scenarios() -> Checker<'static> {
 }
 
 #[test]
-fn every_refusal_from_1_to_12_is_met() {
+fn every_refusal_from_1_to_12_and_14_are_met_and_13_is_not() {
     let mut checker = after_all_scenarios();
     checker.list_check(&workload::full_length_list(4097)).expect("no difference");
-    for number in 0..=12 {
-        assert!(checker.tally.of_number(number) > 0, "{number} was not met in\n{}", checker.tally);
+    for number in 0..=14 {
+        assert_eq!(checker.tally.of_number(number) > 0, number != 13, "{number} in\n{}", checker.tally);
     }
 }
 
 #[test]
-fn lists_and_updates_are_refused_5_and_files_never() {
+fn lists_and_updates_are_refused_5_and_files_and_messages_never() {
     let tally = after_all_scenarios().tally;
-    assert_eq!(tally.of_call("file_read", 5), 0, "{tally}");
-    let of_lists =
-        ["file_write", "list_check", "list_scan", "list_runs", "table_build", "image_build", "segments_build"];
+    for call in ["file_read", "message_apply"] {
+        assert_eq!(tally.of_call(call, 5), 0, "{call} in\n{tally}");
+    }
+    let of_lists = [
+        "file_write",
+        "list_check",
+        "list_scan",
+        "list_runs",
+        "table_build",
+        "image_build",
+        "segments_build",
+        "message_write",
+    ];
     let of_updates = ["table_announce", "table_withdraw"];
     for call in of_lists.iter().chain(&of_updates) {
         assert!(tally.of_call(call, 5) > 0, "5 was not met by {call} in\n{tally}");
@@ -37,13 +47,17 @@ fn lists_and_updates_are_refused_5_and_files_never() {
 }
 
 #[test]
-fn segment_tables_are_refused_as_the_rules_say_and_with_no_other_number() {
+fn segment_tables_and_messages_are_refused_as_the_rules_say_and_with_no_other_number() {
     let tally = after_all_scenarios().tally;
     // 8 takes more routes than these scenarios have.
-    for (call, numbers) in
-        [("segments_build", &[0, 3, 4, 5, 6, 7, 9][..]), ("segments_lookup", &[0, 11]), ("segments_entries", &[0])]
-    {
-        for number in 0..=12 {
+    for (call, numbers) in [
+        ("segments_build", &[0, 3, 4, 5, 6, 7, 9][..]),
+        ("segments_lookup", &[0, 11]),
+        ("segments_entries", &[0]),
+        ("message_apply", &[0, 4, 6, 9, 11, 14]),
+        ("message_write", &[0, 3, 4, 5, 6, 7, 9]),
+    ] {
+        for number in 0..=14 {
             assert_eq!(tally.of_call(call, number) > 0, numbers.contains(&number), "{call}, {number} in\n{tally}");
         }
     }

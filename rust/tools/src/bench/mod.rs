@@ -4,6 +4,7 @@
 mod chart;
 mod lists;
 mod lookups;
+mod messages;
 mod race;
 mod report;
 mod segments;
@@ -31,5 +32,6 @@ pub fn measure(kind: Kind, rounds: usize) -> Measured {
     races.extend(lists::races(&subject));
     races.extend(updates::races(&subject));
     races.extend(segments::races(&subject));
+    races.extend(messages::races(&subject));
     Measured { set: kind.name(), outcomes: race::run(races, rounds) }
 }

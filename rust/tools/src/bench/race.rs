@@ -10,6 +10,8 @@ pub enum Runner {
     Plain,
     /// The proved library itself, by an image at stride 4: another structure for the same addresses.
     Image,
+    /// The proved library itself, by a check of the good order of the same table.
+    Check,
     Reference,
 }
 

@@ -7,21 +7,22 @@ pub fn report(all: &[Measured]) -> String {
     all.iter().map(tables).collect::<Vec<_>>().join("\n")
 }
 
-/// First what is measured against plain code and the reference, then segment tables against an image.
+/// The runners by which the library is measured against itself, each with the head of its table.
+const OWN: [(Runner, [&str; 4]); 2] = [
+    (Runner::Image, ["What", "segment tables", "image, stride 4", "segment tables ÷ image"]),
+    (Runner::Check, ["What", "message", "good-order check", "message ÷ check"]),
+];
+
+/// First what is measured against plain code and the reference, then segment tables against an image, and messages
+/// against the check of a table.
 fn tables(measured: &Measured) -> String {
-    let (with_images, others): (Vec<&Outcome>, Vec<&Outcome>) =
-        measured.outcomes.iter().partition(|outcome| outcome.of(Runner::Image).is_some());
+    let of = |runner| measured.outcomes.iter().filter(move |outcome| outcome.of(runner).is_some());
+    let others = measured.outcomes.iter().filter(|outcome| OWN.iter().all(|(runner, _)| outcome.of(*runner).is_none()));
     let head = ["What", "proved", "plain", "proved ÷ plain", "reference", "proved ÷ reference"];
     let row =
-        |outcome: &&Outcome| [cells(outcome, Runner::Plain), cells(outcome, Runner::Reference)[2..].into()].concat();
-    let image_head = ["What", "segment tables", "image, stride 4", "segment tables ÷ image"];
-    let image_row = |outcome: &&Outcome| cells(outcome, Runner::Image);
-    format!(
-        "### {}\n\n{}\n{}",
-        measured.set,
-        table(&head, others.iter().map(row)),
-        table(&image_head, with_images.iter().map(image_row)),
-    )
+        |outcome: &Outcome| [cells(outcome, Runner::Plain), cells(outcome, Runner::Reference)[2..].into()].concat();
+    let own = OWN.map(|(runner, head)| table(&head, of(runner).map(|outcome| cells(outcome, runner))));
+    format!("### {}\n\n{}\n{}", measured.set, table(&head, others.map(row)), own.join("\n"))
 }
 
 /// What was measured, the time of the proved library, that of this runner, and the ratio; empty where it did not run.

@@ -1,0 +1,2 @@
+-- What the parts of the call give and ask.
+pub mod Needs

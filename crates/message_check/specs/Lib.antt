@@ -1,0 +1,2 @@
+-- What the check of a message answers.
+pub mod Checked

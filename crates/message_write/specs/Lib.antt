@@ -1,0 +1,2 @@
+-- What the parts of the writer give and ask.
+pub mod Needs

@@ -1,0 +1,134 @@
+// Numbers as big-endian bytes, and a prefix as one length byte and the fewest bytes that hold it, read and written at an offset.
+ghost use mathlib.Core.Path.{_≡_};
+ghost use Prim.Native.Nat.{_+_, _^_, _≤_, _<_};
+ghost use lib.ListN.{length};
+ghost use Rattle.bits.specs.Prefix.{first};
+ghost use Rattle.octets.specs.Bytes.{digits};
+ghost use Rattle.octets.specs.Octets.{prefixBytes, prefixSize, lenAt, valueFrom, prefixAt, prefixOctets, stored};
+ghost use Rattle.octets.specs.Needs.{BytesFor, SizeFor, ByteIs, NumberAt};
+ghost use Rattle.octets.specs.Taken.{takenAt};
+use prefix::Prefix;
+
+// The fewest bytes that hold that many bits: none for a prefix of length 0.
+pub fn prefix_bytes(len: u32) -> usize
+    ensures { λ r. ⌜ BytesFor len r ⌝ }
+{
+    ((len as u64 + 7) / 8) as usize
+}
+
+// The bytes of a prefix: its length, and those that hold it.
+pub fn prefix_size(len: u32) -> usize
+    ensures { λ r. ⌜ SizeFor len r ⌝ }
+{
+    prefix_bytes(len) + 1
+}
+
+// A byte as a number.
+fn wide(b: u8) -> u64
+    ensures { λ r. ⌜ ByteIs b r ⌝ }
+{
+    b as u64
+}
+
+// The number that k bytes write, big-endian.
+pub fn number_at(bytes: &[u8], from: usize, k: usize) -> u64
+    requires { ⌜ (from + k ≤ length (now bytes)) × (k ≤ 4) ⌝ }
+    ensures { λ r. ⌜ NumberAt (now (bytes .entry)) from k r ⌝ }
+{
+    let mut sum: u64 = 0;
+    let mut j: usize = 0;
+    while j < k {
+        sum = sum * 256 + wide(bytes[from + j]);
+        j += 1;
+    }
+    sum
+}
+
+// The length byte of the prefix at an offset.
+pub fn length_at(bytes: &[u8], at: usize) -> u32
+    requires { ⌜ at < length (now bytes) ⌝ }
+    ensures { λ r. ⌜ ByteIs (lenAt (now (bytes .entry)) at) r ⌝ }
+{
+    wide(bytes[at]) as u32
+}
+
+// The bytes of a value with all that is past the length cleared. Nothing else decides what becomes of spare bits.
+fn clear_past(high: u64, len: u32) -> u32
+    requires { ⌜ (high < 2 ^ 32) × (len ≤ 32) ⌝ }
+    ensures { λ r. ⌜ r ≡ first 32 high len ⌝ }
+{
+    let past = (32 - len) as usize;
+    ((high >> past) << past) as u32
+}
+
+// The value of a prefix from its bytes, its spare bits cleared.
+fn value_from(bytes: &[u8], from: usize, len: u32) -> u32
+    requires { ⌜ (from + prefixBytes len ≤ length (now bytes)) × (len ≤ 32) ⌝ }
+    ensures { λ r. ⌜ r ≡ first 32 (valueFrom 32 (now (bytes .entry)) from len) len ⌝ }
+{
+    // Four bytes at once where there are so many, and those past the prefix cleared too: no loop whose end must be guessed.
+    if from + 4 <= bytes.len() {
+        return clear_past(number_at(bytes, from, 4), len);
+    }
+    let k = prefix_bytes(len);
+    let high = number_at(bytes, from, k);
+    clear_past(high << (32 - 8 * k), len)
+}
+
+// The prefix at an offset, where a whole one stands.
+pub fn prefix_at(bytes: &[u8], at: usize) -> Prefix
+    requires { ⌜ (lenAt (now bytes) at ≤ 32) × (at + prefixSize (lenAt (now bytes) at) ≤ length (now bytes)) ⌝ }
+    ensures { λ r. ⌜ r ≡ prefixAt 32 (now (bytes .entry)) at ⌝ }
+{
+    let len = length_at(bytes, at);
+    let value = value_from(bytes, at + 1, len);
+    Prefix { value, len }
+}
+
+// What stands at an offset of some bytes: a whole prefix, or a length byte above 32, or a prefix that runs past the end.
+pub enum Taken {
+    Whole(Prefix),
+    Long,
+    Cut,
+}
+
+// The prefix at an offset of any bytes, or why there is none. At the end of the bytes and past it, a prefix is cut.
+pub fn take_prefix(bytes: &[u8], at: usize) -> Taken
+    ensures { λ r. ⌜ r ≡ takenAt 32 (now (bytes .entry)) at ⌝ }
+{
+    if bytes.len() <= at {
+        return Taken::Cut;
+    }
+    let len = length_at(bytes, at);
+    if 32 < len {
+        return Taken::Long;
+    }
+    if bytes.len() < at + prefix_size(len) {
+        return Taken::Cut;
+    }
+    Taken::Whole(prefix_at(bytes, at))
+}
+
+// Stores the last k bytes of a number, big-endian, from an offset on.
+pub fn put_number(bytes: &mut [u8], at: usize, k: usize, x: u64)
+    requires { ⌜ (at + k ≤ length (now bytes)) × (k ≤ 4) ⌝ }
+    ensures { λ _. ⌜ now (bytes .exit) ≡ stored (now (bytes .entry)) at (digits k x) ⌝ }
+{
+    let mut j: usize = 0;
+    while j < k {
+        let gap = 8 * (k - 1 - j);
+        bytes[at + j] = ((x >> gap) % 256) as u8;
+        j += 1;
+    }
+}
+
+// Stores a prefix from an offset on: its length, and the bytes that hold it.
+pub fn put_prefix(bytes: &mut [u8], at: usize, value: u32, len: u32)
+    requires { ⌜ (at + prefixSize len ≤ length (now bytes)) × (len ≤ 32) ⌝ }
+    ensures { λ _. ⌜ now (bytes .exit) ≡ stored (now (bytes .entry)) at (prefixOctets 32 value len) ⌝ }
+{
+    let k = prefix_bytes(len);
+    let gap = 32 - 8 * k;
+    put_number(bytes, at, 1, len as u64);
+    put_number(bytes, at + 1, k, (value as u64) >> gap);
+}

@@ -1,12 +1,11 @@
 -- A history on a boundary that follows the definitions is the history that they define. Assumes nothing.
-use mathlib.Core.Path.{_≡_, refl, ap, subst, sym, _∙_}
+use mathlib.Core.Path.{_≡_, refl, ap, subst, sym}
 use mathlib.Core.Bool.{Bool, cond}
 use mathlib.Core.List.{List, [], _∷_}
 use Prim.Native.Nat.{ℕ}
 use native.Mathlib.Omega.{arith}
 use lib.Dec.{eqb}
 use Rattle.promise.specs.Over.{Outcome}
-use Rattle.bits.specs.Bits.{Bits}
 use Rattle.trie.specs.Routes.{Routes, noRoutes}
 use Rattle.refusals.specs.Reply.{Reply, replied}
 use Rattle.table_rows.specs.Words.{capacity, rowAt, fiveWords}
@@ -17,7 +16,7 @@ use Rattle.table_rules.proofs.Good.{placed→held}
 use Rattle.table_update.proofs.FillLoop.{placed-none}
 use Rattle.message_calls.specs.History.{Event, single, message, portLeft, outcomeOn, afterEvent, isTaken}
 use Rattle.message_calls.proofs.Theorems.{event-is}
-use Rattle.demands.specs.Boundary.{Boundary, result}
+use Rattle.demands.specs.Boundary.{Boundary}
 use Rattle.demands.specs.History.{Step, May, left, Happened, emptyTable, atEnd, portSince, heldBy}
 use Rattle.demands.proofs.Follows.{Follows}
 

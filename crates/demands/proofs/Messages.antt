@@ -1,20 +1,18 @@
 -- Three messages that are accepted: with nothing in it, one that withdraws the whole space, and one that announces it and its left half.
 -- Assumes nothing.
-use mathlib.Core.Path.{_≡_, refl, sym, ap, _∙_, subst}
-use mathlib.Core.Logic.{_⊎_, inl, inr}
-use mathlib.Core.Bool.{Bool, true, false, cond, _&&_}
+use mathlib.Core.Path.{_≡_, refl, subst}
+use mathlib.Core.Bool.{Bool, true, _&&_}
 use mathlib.Core.List.{List, [], _∷_, _++_}
-use Prim.Native.Nat.{ℕ, zero, suc, _+_, _^_, _<_, _≤_}
+use Prim.Native.Nat.{ℕ, zero, suc, _+_}
 use native.Mathlib.Omega.{arith}
-use lib.Dec.{leb, ltb}
-use lib.ListN.{length, getD, replicate}
+use lib.Dec.{ltb}
+use lib.ListN.{replicate}
 use borrow.Author.Tests.{ltb-true}
 use Rattle.promise.specs.Over.{Outcome}
 use Rattle.lists.proofs.Tests.{both}
 use Rattle.lists.specs.Below.{someBelow}
 use Rattle.prefix.specs.Prefixes.{prefix}
-use Rattle.prefix.specs.declared.Prefix.{Prefix}
-use Rattle.refusals.specs.Refusals.{refused, accepted}
+use Rattle.refusals.specs.Refusals.{accepted}
 use Rattle.refusals.specs.declared.Answer.{Answer}
 use Rattle.octets.specs.Bytes.{Bytes, number}
 use Rattle.octets.specs.Taken.{takenAt}
@@ -25,9 +23,9 @@ use Rattle.message_rules.specs.Check.{innerCheck, headCheck, partFrom, messageC
 use Rattle.message_calls.specs.Once.{those, among, onceAfter}
 use Rattle.message_calls.specs.Named.{finalCount}
 use Rattle.message_calls.specs.Apply.{appliedTo, applyInto}
-use Rattle.demands.specs.Lamp.{Verdict, shows}
+use Rattle.demands.specs.Lamp.{Verdict}
 use Rattle.demands.specs.MessageChecks.{messageChecks}
-use Rattle.demands.proofs.Shown.{View, On}
+use Rattle.demands.proofs.Shown.{View}
 use Rattle.demands.proofs.OfMessages.{on-message}
 
 abbrev marker : List ℕ

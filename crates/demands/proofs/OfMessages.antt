@@ -1,23 +1,22 @@
 -- Demand 1 of the calls on messages. Assumes nothing.
-use mathlib.Core.Path.{_≡_, refl, sym, ap, _∙_}
+use mathlib.Core.Path.{_≡_, refl, sym, _∙_}
 use mathlib.Core.Logic.{_⊎_, inl, inr}
-use mathlib.Core.Bool.{Bool, true, false, not, cond, _&&_, _||_, true≢false, false≢true}
+use mathlib.Core.Bool.{Bool, true, false, not, cond, _&&_, _||_, true≢false}
 use mathlib.Core.List.{List}
 use Prim.Native.Nat.{ℕ, zero, suc, _+_, _%_, _<_, _≤_}
 use native.Mathlib.Omega.{arith}
 use lib.Dec.{eqb, leb, ltb}
 use lib.ListN.{length, getD}
-use borrow.Author.Tests.{ne-eqb, eq-eqb, eqb-true, eqb-false, leb-true, leb-false, ltb-true, ltb-false}
+use borrow.Author.Tests.{ne-eqb, eq-eqb, leb-true, leb-false, ltb-true, ltb-false}
 use Rattle.promise.specs.Over.{Outcome, outcome, over}
 use Rattle.lists.proofs.Below.{some-below, passing}
 use Rattle.lists.proofs.Tests.{both, either, neither}
 use Rattle.trie.specs.Routes.{Routes}
-use Rattle.prefix.specs.declared.Prefix.{Prefix}
 use Rattle.refusals.specs.Refusals.{longPrefix, wrongPort, noRoom, notInOrder, badMessage, refused, accepted, andThen}
 use Rattle.refusals.specs.declared.Answer.{Answer}
 use Rattle.routes.specs.Bounds.{lastPort}
 use Rattle.routes.specs.Routes.{routeAt, routeCount}
-use Rattle.routes.specs.Check.{isPort, listCheck}
+use Rattle.routes.specs.Check.{isPort}
 use Rattle.octets.specs.Bytes.{Bytes}
 use Rattle.octets.specs.Octets.{prefixSize, lenAt, prefixAt}
 use Rattle.octets.specs.Taken.{takenAt}

@@ -1,8 +1,8 @@
 -- Each answer of the call, by what the code knows where it returns. Assumes nothing.
-use mathlib.Core.Path.{_≡_, refl, sym, ap, ap₂, _∙_, subst}
+use mathlib.Core.Path.{_≡_, refl, sym, ap, ap₂, _∙_}
 use mathlib.Core.Bool.{Bool, true, false, cond}
 use mathlib.Core.List.{List}
-use Prim.Native.Nat.{ℕ, _+_, _-_, _≤_, _<_}
+use Prim.Native.Nat.{ℕ, _-_, _≤_}
 use native.Mathlib.Omega.{arith}
 use lib.Dec.{eqb}
 use lib.ListN.{length, take, drop, length-drop}
@@ -14,8 +14,8 @@ use Rattle.refusals.specs.declared.Answer.{Answer}
 use Rattle.routes.specs.Check.{isPort}
 use Rattle.table_rules.specs.Check.{isGood}
 use Rattle.table_rows.specs.Words.{fiveWords}
-use Rattle.message_rules.specs.Message.{mostSize, withdrawnAt, withdrawnSize, attributesSizeAt, announcedAt, withdrawnPart, announcedPart, prefixesIn}
-use Rattle.message_rules.specs.Check.{headCheck, messageCheck, Fits}
+use Rattle.message_rules.specs.Message.{withdrawnAt, withdrawnSize, attributesSizeAt, announcedAt, withdrawnPart, announcedPart, prefixesIn}
+use Rattle.message_rules.specs.Check.{messageCheck, Fits}
 use Rattle.message_rules.proofs.Heads.{message-fits}
 use Rattle.message_check.specs.Checked.{refusedBy, checkedOf}
 use Rattle.message_check.specs.declared.Checked.{Checked}

@@ -1,32 +1,30 @@
 -- What the passes of the call have found, and that its answer is that of the message's prefixes. Assumes nothing.
-use mathlib.Core.Path.{_≡_, refl, sym, ap, ap₂, _∙_, subst}
-use mathlib.Core.Bool.{Bool, true, false, cond, _&&_, _||_}
+use mathlib.Core.Path.{_≡_, refl, sym, ap, ap₂, _∙_}
+use mathlib.Core.Bool.{Bool, or-false}
 use mathlib.Core.List.{List, [], _++_}
-use Prim.Native.Nat.{ℕ, min, _+_, _-_, _/_, _%_, _≤_, _<_}
+use Prim.Native.Nat.{ℕ, _+_, _-_, _≤_, _<_}
 use native.Mathlib.Omega.{arith}
 use native.Mathlib.Nat.{zero-add}
-use lib.Dec.{eqb, leb, ltb}
+use lib.Dec.{leb, ltb}
 use lib.ListN.{length, length-append}
 use borrow.Author.Tests.{le-leb, lt-leb, leb-true, ltb-true}
-use Rattle.promise.specs.Over.{Outcome, outcome}
+use Rattle.promise.specs.Over.{outcome}
 use Rattle.bits.specs.Prefix.{Valid}
 use Rattle.lists.proofs.Tests.{both}
 use Rattle.prefix.specs.declared.Prefix.{Prefix}
 use Rattle.refusals.specs.Refusals.{noRoom, accepted}
 use Rattle.refusals.specs.declared.Answer.{Answer}
 use Rattle.routes.specs.Bounds.{mostRoutes, lastPort}
-use Rattle.routes.specs.Check.{isPort}
 use Rattle.table_rules.specs.Holds.{GoodOrder}
 use Rattle.table_rules.proofs.Good.{check-is-good}
 use Rattle.table_rows.specs.Words.{fiveWords}
 use Rattle.table_rows.proofs.Words.{words-stores}
-use Rattle.table_update.specs.Calls.{leaves}
-use Rattle.table_update.specs.History.{Table, ran}
+use Rattle.table_update.specs.History.{Table}
 use Rattle.octets.specs.Bytes.{Bytes}
-use Rattle.message_rules.specs.Message.{mostSize, prefixesIn, AllValid}
+use Rattle.message_rules.specs.Message.{prefixesIn, AllValid}
 use Rattle.message_rules.proofs.Walk.{length-prefixes, valid-prefixes}
 use Rattle.message_calls.specs.Once.{among, those}
-use Rattle.message_calls.specs.Named.{isOne, isNamed, once, holds, callsFor, finalCount}
+use Rattle.message_calls.specs.Named.{isOne, isNamed, once, holds, finalCount}
 use Rattle.message_calls.specs.Steps.{Noted, noteOne, noted, dropped, added}
 use Rattle.message_calls.specs.Apply.{doneAs, refusedAt, appliedTo}
 use Rattle.message_calls.proofs.Once.{those-le, once-le}
@@ -140,17 +138,13 @@ module _ (port : ℕ) (gone come words : List ℕ) (n : ℕ) (ok : Applies port 
               abbrev skip : Prefix → Bool
               skip = holds 32 (fiveWords .get seen₃) (k .met)
 
-              or-none : (b : Bool) → (b || false) ≡ b
-              or-none true = refl
-              or-none false = refl
-
               skips : (p : Prefix) → Valid 32 (p .value) (p .len) → skip p ≡ isNamed p cs
               unfolding among
               skips p v =
                   ap (λ (s : Noted). holds 32 (fiveWords .get (s .met .words)) (s .met .count) p) k-is
                   ∙ noted-is fiveWords 32 (words-stores 32) held port some most (notedAs seen′ none) [] cs come-valid
                   (holding-none fiveWords 32 (words-stores 32) held port some most seen′) (omega (arith, long′, lists-few)) .just p v
-                  ∙ or-none (isNamed p cs)
+                  ∙ or-false (isNamed p cs)
 
               module _ (words₁ : List ℕ) (left : ℕ) (left-is : tableAs words₁ left ≡ dropped fiveWords 32 skip (tableAs words n) gs) where
                 pub left-small : left ≤ mostRoutes

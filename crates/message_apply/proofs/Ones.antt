@@ -1,20 +1,16 @@
 -- Each answer of a step with one prefix, by what the code knows where it returns. Assumes nothing.
-use mathlib.Core.Path.{_≡_, refl, sym, ap, ap₂, _∙_}
-use mathlib.Core.Bool.{Bool, true, false, cond, false≢true}
+use mathlib.Core.Path.{_≡_, sym, ap, ap₂, _∙_}
+use mathlib.Core.Bool.{Bool, true, false, cond}
 use mathlib.Core.List.{List}
-use Prim.Native.Nat.{ℕ, _+_, _-_, _≤_, _<_}
+use Prim.Native.Nat.{ℕ, _+_, _-_, _≤_}
 use native.Mathlib.Omega.{arith}
-use native.Mathlib.Nat.{add-zero}
-use lib.Dec.{eqb}
-use borrow.Author.Tests.{eq-eqb}
 use Rattle.prefix.specs.declared.Prefix.{Prefix}
 use Rattle.routes.specs.declared.Route.{Route}
-use Rattle.table_rules.specs.Rows.{Layout, Mem}
+use Rattle.table_rules.specs.Rows.{Layout}
 use Rattle.table_rules.specs.Announce.{announced, isHeld}
 use Rattle.table_rules.specs.Withdraw.{withdrawn}
 use Rattle.table_update.specs.History.{Table}
-use Rattle.table_update.proofs.Answers.{held-some}
-use Rattle.message_calls.specs.Named.{routeTo, holds}
+use Rattle.message_calls.specs.Named.{routeTo}
 use Rattle.message_calls.specs.Steps.{tableHolds, Noted, noteOne, dropOne, addOne}
 use Rattle.message_apply.specs.Needs.{tableAs, notedAs}
 use Rattle.message_apply.specs.declared.Tally.{Tally}

@@ -1,14 +1,12 @@
 -- Announcements of a message on a table in good order that has room for all of them: none is refused. Assumes nothing.
 use mathlib.Core.Path.{_≡_, refl, sym, ap, _∙_, subst, fun-ext}
-use mathlib.Core.Logic.{_⊎_, inl, inr, ⊎-elim}
-use mathlib.Core.Bool.{Bool, true, false, cond, _||_}
+use mathlib.Core.Bool.{Bool, true, false, cond}
 use mathlib.Core.List.{List, [], _∷_}
 use Prim.Native.Nat.{ℕ, _+_, _≤_, _<_}
 use native.Mathlib.Omega.{arith}
 use lib.Dec.{eqb, ltb}
 use borrow.Author.Tests.{eq-eqb, lt-ltb, ltb-false}
 use Rattle.promise.specs.Over.{Outcome, outcome}
-use Rattle.lists.proofs.Tests.{way}
 use Rattle.bits.specs.Bits.{Bits, same}
 use Rattle.bits.specs.Prefix.{Valid}
 use Rattle.trie.specs.Routes.{Routes, upd}
@@ -19,13 +17,12 @@ use Rattle.routes.specs.Routes.{ValidRoute}
 use Rattle.routes.specs.Bounds.{lastPort}
 use Rattle.routes.specs.Check.{routeFault}
 use Rattle.table_rules.specs.Rows.{Layout, Stores}
-use Rattle.table_rules.specs.Check.{isGood}
-use Rattle.table_rules.specs.Announce.{announced, isHeld}
+use Rattle.table_rules.specs.Announce.{isHeld}
 use Rattle.table_rules.proofs.Table.{held-is}
 use Rattle.table_rules.proofs.Good.{check-is-good}
 use Rattle.table_rules.proofs.Closed.{announced-room}
 use Rattle.table_update.specs.Calls.{leaves, announceIn, announceInto}
-use Rattle.table_update.specs.History.{Call, announcing, Table, after, isAccepted, ran, AllAccepted}
+use Rattle.table_update.specs.History.{announcing, Table, after, isAccepted, ran, AllAccepted}
 use Rattle.table_update.proofs.Arguments.{route-faultless}
 use Rattle.table_update.proofs.History.{call-is}
 use Rattle.message_rules.specs.Message.{AllValid}

@@ -3,7 +3,6 @@ use mathlib.Core.Path.{_≡_, refl, sym, ap, ap₂, _∙_, subst, fun-ext}
 use mathlib.Core.Bool.{Bool, true, false, cond, not, _&&_}
 use mathlib.Core.List.{List, [], _∷_, map}
 use Prim.Native.Nat.{ℕ, _≤_, _<_}
-use native.Mathlib.Omega.{arith}
 use Rattle.bits.specs.Bits.{Bits, same}
 use Rattle.bits.specs.Prefix.{Valid}
 use Rattle.bits.proofs.Bits.{same-refl, same-eq}
@@ -86,6 +85,3 @@ module _ (L : Layout (List ℕ)) (w : ℕ) (st : Stores w L) (port : ℕ) (some 
 
     pub applied-good : TableGood L w left (finalSet w port gone come S)
     applied-good = subst (TableGood L w left) final-is (up .good)
-
-    pub applied-room : L .room (left .words) ≡ L .room (t .words)
-    applied-room = up .room ∙ down .room

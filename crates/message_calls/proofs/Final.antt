@@ -1,14 +1,13 @@
 -- The final set has as many routes as are counted: those held that are not named, and the announced ones. Assumes nothing.
-use mathlib.Core.Path.{_≡_, refl, sym, ap, ap₂, _∙_, subst}
-use mathlib.Core.Logic.{_⊎_, inl, inr, ⊎-elim}
-use mathlib.Core.Bool.{Bool, true, false, cond, not, _&&_, _||_, true≢false, false≢true}
+use mathlib.Core.Path.{_≡_, refl, sym, ap, ap₂, _∙_}
+use mathlib.Core.Bool.{Bool, true, false, cond, not, _&&_, _||_, and-true, and-false, false≢true}
 use mathlib.Core.List.{List, [], _∷_, _++_, map, map-append}
-use Prim.Native.Nat.{ℕ, zero, suc, _+_, _-_, _≤_, _<_}
+use Prim.Native.Nat.{ℕ, _+_, _-_, _≤_, _<_}
 use native.Mathlib.Omega.{arith}
 use lib.Dec.{eqb, ltb}
 use lib.ListN.{length, length-append, length-map}
 use borrow.Author.Tests.{eqb-true, eq-eqb, lt-ltb}
-use Rattle.lists.proofs.Tests.{way, both, either, test-eq}
+use Rattle.lists.proofs.Tests.{both, test-eq}
 use Rattle.bits.specs.Bits.{Bits, same}
 use Rattle.bits.specs.Prefix.{Valid}
 use Rattle.bits.proofs.Bits.{same-refl, same-eq, valid-prefix-unique}
@@ -21,7 +20,7 @@ use Rattle.table_update.specs.Calls.{prefixOnly}
 use Rattle.message_rules.specs.Message.{AllValid}
 use Rattle.message_calls.specs.Once.{ahead, those, among, onceAfter, Differ}
 use Rattle.message_calls.specs.Named.{isOne, isNamed, once, holds, finalCount, bitsOf, hasBits, finalSet, Size}
-use Rattle.message_calls.proofs.Once.{and-true, and-false, length-split, among-append, among-those, among-once, differ-those, differ-once, differ-append, no-more}
+use Rattle.message_calls.proofs.Once.{length-split, among-append, among-those, among-once, differ-those, differ-once, differ-append, no-more}
 use Rattle.message_calls.proofs.Sized.{good-size}
 
 map-ahead : {A B : Type 0} (f : A → B) (b : Bool) (x : A) (xs : List A) → map f (ahead b x xs) ≡ ahead b (f x) (map f xs)
@@ -37,11 +36,6 @@ valid-ahead : (w : ℕ) (b : Bool) (p : Prefix) (ps : List Prefix) → Valid w (
 unfolding AllValid
 valid-ahead w true p ps v u = (v, u)
 valid-ahead w false p ps v u = u
-
-pub valid-those : (w : ℕ) (test : Prefix → Bool) (ps : List Prefix) → AllValid w ps → AllValid w (those test ps)
-unfolding AllValid those
-valid-those w test [] v = tt
-valid-those w test (p ∷ ps) v = valid-ahead w (test p) p (those test ps) (v .0) (valid-those w test ps (v .1))
 
 pub valid-once : (w : ℕ) (past ps : List Prefix) → AllValid w ps → AllValid w (onceAfter isOne past ps)
 unfolding AllValid onceAfter
@@ -64,9 +58,6 @@ pub one-eq : (p q : Prefix) → isOne p q ≡ true → p ≡ q
 one-eq p q e =
     let t = both (eqb (p .len) (q .len)) (eqb (p .value) (q .value)) e in
     λ j. record { value = eqb-true (p .value) (q .value) (t .1) j; len = eqb-true (p .len) (q .len) (t .0) j }
-
-pub one-self : (p : Prefix) → isOne p p ≡ true
-one-self p = rw (eq-eqb (p .len) (p .len) refl, eq-eqb (p .value) (p .value) refl)
 
 module _ (w : ℕ) where
   pub same-bits : (p q : Prefix) → Valid w (p .value) (p .len) → Valid w (q .value) (q .len) → same (bitsOf w p) (bitsOf w q) ≡ isOne p q

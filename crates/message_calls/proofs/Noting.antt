@@ -1,16 +1,14 @@
 -- Prefixes noted in a table of their own: it holds just those met, has a row for each that is different, and the hits are those of
 -- them that the other table holds. Assumes nothing.
-use mathlib.Core.Path.{_≡_, refl, sym, ap, ap₂, _∙_, subst}
-use mathlib.Core.Logic.{_⊎_, inl, inr}
-use mathlib.Core.Bool.{Bool, true, false, cond, not, _||_, true≢false}
+use mathlib.Core.Path.{_≡_, refl, sym, ap, _∙_, subst}
+use mathlib.Core.Bool.{Bool, true, false, cond, not, _||_}
 use mathlib.Core.List.{List, [], _∷_, _++_}
-use Prim.Native.Nat.{ℕ, suc, _+_, _≤_, _<_}
+use Prim.Native.Nat.{ℕ, _+_, _≤_, _<_}
 use native.Mathlib.Omega.{arith}
 use lib.Dec.{ltb}
 use lib.ListN.{length}
-use borrow.Author.Tests.{lt-ltb, ltb-false}
-use Rattle.lists.proofs.Tests.{way, test-eq, either}
-use Rattle.bits.specs.Bits.{Bits, same}
+use borrow.Author.Tests.{lt-ltb}
+use Rattle.bits.specs.Bits.{same}
 use Rattle.bits.specs.Prefix.{Valid}
 use Rattle.trie.specs.Routes.{Routes, noRoutes, upd}
 use Rattle.prefix.specs.declared.Prefix.{Prefix}
@@ -26,7 +24,7 @@ use Rattle.table_update.proofs.FillLoop.{placed-none}
 use Rattle.message_rules.specs.Message.{AllValid}
 use Rattle.message_calls.specs.Once.{ahead, those, among, onceAfter}
 use Rattle.message_calls.specs.Named.{isOne, isNamed, routeTo, bitsOf}
-use Rattle.message_calls.specs.Steps.{folded, tableHolds, addOne, Noted, noteOne, noted}
+use Rattle.message_calls.specs.Steps.{folded, tableHolds, addOne, Noted, noted}
 use Rattle.message_calls.proofs.Final.{one-eq, same-bits}
 use Rattle.message_calls.proofs.Running.{TableGood}
 use Rattle.message_calls.proofs.Adding.{announce-good}

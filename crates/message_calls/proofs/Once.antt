@@ -1,7 +1,7 @@
 -- Laws of lists of different things: what is among those that pass and among each once, and how many they are. Assumes nothing.
 use mathlib.Core.Path.{_≡_, refl, sym, ap, _∙_}
 use mathlib.Core.Logic.{_⊎_, inl, inr, ⊎-elim}
-use mathlib.Core.Bool.{Bool, true, false, cond, not, _&&_, _||_, true≢false, false≢true}
+use mathlib.Core.Bool.{Bool, true, false, not, _&&_, _||_, and-false, or-assoc, true≢false, false≢true}
 use mathlib.Core.List.{List, [], _∷_, _++_}
 use Prim.Native.Nat.{ℕ, zero, suc, _+_, _≤_, _<_}
 use native.Mathlib.Omega.{arith}
@@ -10,25 +10,13 @@ use lib.ListN.{length}
 use borrow.Author.Tests.{eqb-true, eqb-false}
 use Rattle.lists.specs.Numbered.{listOf}
 use Rattle.lists.proofs.Numbered.{Among}
-use Rattle.lists.proofs.Tests.{way, both, either, neither, test-eq, test-no}
+use Rattle.lists.proofs.Tests.{way, either, test-no}
 use Rattle.message_calls.specs.Once.{ahead, those, among, onceAfter, Differ}
 
 -- tests, by cases
-or-assoc : (a b c : Bool) → ((a || b) || c) ≡ (a || (b || c))
-or-assoc true b c = refl
-or-assoc false b c = refl
-
 or-true : (a b : Bool) → b ≡ true → (a || b) ≡ true
 or-true true b h = refl
 or-true false b h = h
-
-pub and-true : (a : Bool) → (a && true) ≡ a
-and-true true = refl
-and-true false = refl
-
-pub and-false : (a : Bool) → (a && false) ≡ false
-and-false true = refl
-and-false false = refl
 
 module _ {A : Type 0} (test : A → Bool) where
   -- those that pass and those that do not are all
@@ -41,12 +29,6 @@ module _ {A : Type 0} (test : A → Bool) where
           → length (ahead b x (those test xs)) + length (ahead (not b) x (those (λ y. not (test y)) xs)) ≡ suc (length xs)
       by true ih = omega arith
       by false ih = omega arith
-
--- tests that agree let the same pass
-pub those-same : {A : Type 0} (f g : A → Bool) → ((x : A) → f x ≡ g x) → (xs : List A) → those f xs ≡ those g xs
-unfolding those
-those-same f g e [] = refl
-those-same f g e (x ∷ xs) = rw (e x, those-same f g e xs)
 
 -- no more than there are
 ahead-le : {A : Type 0} (b : Bool) (x : A) (xs : List A) (k : ℕ) → length xs ≤ k → length (ahead b x xs) ≤ suc k

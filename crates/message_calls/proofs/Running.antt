@@ -1,46 +1,35 @@
 -- The calls of a message on a table in good order are its prefixes taken one by one, and none of them meets a full table where the
 -- final set fits. Assumes nothing.
-use mathlib.Core.Path.{_≡_, refl, sym, ap, ap₂, _∙_, subst, fun-ext}
-use mathlib.Core.Logic.{_⊎_, inl, inr, ⊎-elim}
-use mathlib.Core.Bool.{Bool, true, false, cond, not, _&&_, _||_, true≢false, false≢true}
-use mathlib.Core.List.{List, [], _∷_, _++_, map}
-use Prim.Native.Nat.{ℕ, zero, suc, _+_, _-_, _≤_, _<_}
+use mathlib.Core.Path.{_≡_, refl, sym, ap, _∙_, subst, fun-ext}
+use mathlib.Core.Bool.{Bool, true, false, cond, not, _||_}
+use mathlib.Core.List.{List, [], _∷_, _++_}
+use Prim.Native.Nat.{ℕ, _+_, _-_}
 use native.Mathlib.Omega.{arith}
-use lib.Dec.{eqb, leb, ltb}
-use lib.ListN.{length}
-use borrow.Author.Tests.{eqb-true, eq-eqb, le-leb, lt-ltb, ltb-true, ltb-false}
+use lib.Dec.{eqb, ltb}
+use borrow.Author.Tests.{eq-eqb, le-leb, ltb-false}
 use Rattle.promise.specs.Over.{Outcome, outcome}
-use Rattle.lists.proofs.Tests.{way}
-use Rattle.bits.specs.Bits.{Bits, same}
-use Rattle.bits.specs.Prefix.{clear, Valid}
-use Rattle.bits.proofs.Bits.{same-refl, same-eq}
+use Rattle.bits.specs.Bits.{same}
+use Rattle.bits.specs.Prefix.{Valid}
 use Rattle.trie.specs.Routes.{Routes, upd}
-use Rattle.trie.proofs.Routes.{upd-none, none-or-some}
+use Rattle.trie.proofs.Routes.{upd-none}
 use Rattle.prefix.specs.declared.Prefix.{Prefix}
-use Rattle.refusals.specs.Refusals.{notHeld, noRoom, accepted}
+use Rattle.refusals.specs.Refusals.{notHeld, accepted}
 use Rattle.refusals.specs.declared.Answer.{Answer}
-use Rattle.routes.specs.Routes.{ValidRoute}
-use Rattle.routes.specs.Bounds.{lastPort}
-use Rattle.routes.specs.Check.{prefixFault, routeFault}
+use Rattle.routes.specs.Check.{prefixFault}
 use Rattle.table_rules.specs.Rows.{Layout, Stores}
 use Rattle.table_rules.specs.Holds.{GoodFor}
 use Rattle.table_rules.specs.Check.{isGood}
-use Rattle.table_rules.specs.Announce.{announced, isHeld}
 use Rattle.table_rules.specs.Withdraw.{withdrawn}
 use Rattle.table_rules.proofs.Table.{held-is}
 use Rattle.table_rules.proofs.Good.{check-is-good}
-use Rattle.table_rules.proofs.Closed.{announced-room, withdrawn-room}
-use Rattle.table_update.specs.Calls.{leaves, prefixOnly, announceIn, announceInto, withdrawIn, withdrawInto}
-use Rattle.table_update.specs.History.{Call, announcing, withdrawing, Table, after, isAccepted, ran}
-use Rattle.table_update.proofs.Arguments.{route-faultless}
+use Rattle.table_rules.proofs.Closed.{withdrawn-room}
+use Rattle.table_update.specs.Calls.{leaves, prefixOnly, withdrawIn, withdrawInto}
+use Rattle.table_update.specs.History.{Call, withdrawing, Table, after, isAccepted, ran}
 use Rattle.table_update.proofs.History.{call-is}
 use Rattle.message_rules.specs.Message.{AllValid}
 use Rattle.message_calls.specs.Once.{ahead, those, among}
-use Rattle.message_calls.specs.Named.{isNamed, remaining, routeTo, withdrawals, announcements, callsFor, bitsOf, hasBits, finalSet, Size}
-use Rattle.message_calls.specs.Steps.{folded, tableHolds, dropOne, dropped, addOne, added}
-use Rattle.message_calls.proofs.Once.{among-those}
-use Rattle.message_calls.proofs.Sized.{good-size, size-le, size-more}
-use Rattle.message_calls.proofs.Final.{has-bits, those-bits, valid-those}
+use Rattle.message_calls.specs.Named.{withdrawals, bitsOf, hasBits}
+use Rattle.message_calls.specs.Steps.{folded, tableHolds, dropped}
 
 -- a table is in good order for S
 abbrev pub TableGood : Layout (List ℕ) → ℕ → Table → Routes → Type 0

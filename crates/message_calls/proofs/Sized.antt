@@ -1,23 +1,20 @@
 -- How many routes a set has: a table's as many as its rows, one more with a new prefix, and no fewer where others are in it. Assumes
 -- nothing.
-use mathlib.Core.Path.{_≡_, refl, sym, ap, _∙_}
-use mathlib.Core.Logic.{_⊎_, inl, inr, ⊎-elim}
-use mathlib.Core.Bool.{Bool, true, false, cond, _||_, true≢false}
-use mathlib.Core.List.{List, [], _∷_}
-use Prim.Native.Nat.{ℕ, zero, suc, _+_, _≤_, _<_}
+use mathlib.Core.Path.{_≡_, sym, ap, _∙_}
+use mathlib.Core.Bool.{Bool, true, false, cond, _||_}
+use mathlib.Core.List.{_∷_}
+use Prim.Native.Nat.{ℕ, _+_, _≤_, _<_}
 use native.Mathlib.Omega.{arith}
 use lib.Dec.{ltb}
-use lib.ListN.{length}
 use borrow.Author.Tests.{lt-ltb, ltb-true}
 use Rattle.lists.specs.Numbered.{listOf}
 use Rattle.lists.proofs.Numbered.{length-list-of}
-use Rattle.lists.proofs.Tests.{way, test-eq}
+use Rattle.lists.proofs.Tests.{test-eq}
 use Rattle.bits.specs.Bits.{Bits, same}
 use Rattle.bits.proofs.Bits.{same-refl, same-eq}
 use Rattle.trie.specs.Routes.{Routes, upd}
-use Rattle.trie.proofs.Routes.{same-no}
 use Rattle.table_rules.specs.Rows.{Mem, rowBits}
-use Rattle.table_rules.specs.Holds.{HeldIn, GoodFor}
+use Rattle.table_rules.specs.Holds.{GoodFor}
 use Rattle.message_calls.specs.Once.{among, Differ}
 use Rattle.message_calls.specs.Named.{Size}
 use Rattle.message_calls.proofs.Once.{among-numbered, numbered-among, differ-numbered, no-more}

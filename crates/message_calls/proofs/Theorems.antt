@@ -1,9 +1,9 @@
 -- Messages on a table: they are their calls, leave the final set, and are refused whole. Assumes nothing.
 use mathlib.Core.Path.{_≡_, refl, sym, ap, ap₂, _∙_, subst, fun-ext}
 use mathlib.Core.Logic.{_⊎_, inl, inr}
-use mathlib.Core.Bool.{Bool, true, false, cond, _&&_, true≢false}
-use mathlib.Core.List.{List, [], _∷_, _++_}
-use Prim.Native.Nat.{ℕ, _+_, _%_, _≤_, _<_}
+use mathlib.Core.Bool.{Bool, true, false, cond}
+use mathlib.Core.List.{List, [], _∷_}
+use Prim.Native.Nat.{ℕ, _%_, _≤_, _<_}
 use native.Mathlib.Omega.{arith}
 use lib.Dec.{eqb, leb, ltb}
 use lib.ListN.{length}
@@ -13,27 +13,26 @@ use Rattle.lists.proofs.Tests.{way, both}
 use Rattle.bits.specs.Bits.{Bits, same}
 use Rattle.trie.specs.Routes.{Routes, upd}
 use Rattle.prefix.specs.declared.Prefix.{Prefix}
-use Rattle.refusals.specs.Refusals.{noRoom, notInOrder, wrongPort, accepted}
+use Rattle.refusals.specs.Refusals.{noRoom, notInOrder, wrongPort}
 use Rattle.refusals.specs.declared.Answer.{Answer}
 use Rattle.routes.specs.Bounds.{lastPort}
 use Rattle.routes.specs.Check.{isPort}
 use Rattle.octets.specs.Bytes.{Bytes}
 use Rattle.octets.proofs.Bytes.{bytes-take, bytes-drop}
 use Rattle.table_rules.specs.Rows.{Layout, Mem, Stores}
-use Rattle.table_rules.specs.Holds.{GoodFor, GoodOrder}
+use Rattle.table_rules.specs.Holds.{GoodFor}
 use Rattle.table_rules.specs.Check.{isGood}
 use Rattle.table_rules.proofs.Good.{check-is-good}
 use Rattle.table_update.specs.Calls.{leaves}
-use Rattle.table_update.specs.History.{Call, Table, after, isAccepted, ran, callPrefix, callPort, AllAccepted}
+use Rattle.table_update.specs.History.{Table, after, isAccepted, ran, callPrefix, callPort, AllAccepted}
 use Rattle.table_update.proofs.History.{call-is}
 use Rattle.message_rules.specs.Message.{withdrawnAt, withdrawnSize, announcedAt, withdrawnPart, announcedPart, withdrawnIn, announcedIn, AllValid}
 use Rattle.message_rules.specs.Check.{messageCheck}
 use Rattle.message_rules.proofs.Walk.{valid-prefixes}
 use Rattle.message_calls.specs.Named.{isNamed, remaining, withdrawals, announcements, finalCount, finalSet, Size}
-use Rattle.message_calls.specs.Steps.{dropped, added}
 use Rattle.message_calls.specs.Apply.{doneAs, refusedAt, appliedTo, applyInto}
-use Rattle.message_calls.specs.History.{Event, single, message, callsOf, portLeft, EventFits, outcomeOn, afterEvent, isTaken, callsIn, ranEvents, flattened}
-use Rattle.message_calls.specs.Theorems.{IsItsCalls, AppliedIsCalls, AppliedHolds, AppliedWhole, FullAt, FullExactly, MessageHistoryIs, EventIs}
+use Rattle.message_calls.specs.History.{Event, single, message, callsOf, portLeft, afterEvent, callsIn, ranEvents, flattened}
+use Rattle.message_calls.specs.Theorems.{AppliedIsCalls, AppliedHolds, AppliedWhole, FullExactly, MessageHistoryIs, EventIs}
 use Rattle.message_calls.proofs.Final.{final-size}
 use Rattle.message_calls.proofs.Sized.{size-one}
 use Rattle.message_calls.proofs.Running.{TableGood, ran-append}

@@ -3,7 +3,7 @@
 use mathlib.Core.Path.{_≡_}
 use mathlib.Core.Bool.{Bool, not, cond}
 use mathlib.Core.List.{List, [], _++_, map}
-use Prim.Native.Nat.{ℕ, _+_, _-_, _≤_}
+use Prim.Native.Nat.{ℕ, _+_, _-_}
 use lib.Dec.{ltb}
 use lib.ListN.{length}
 use Rattle.bits.specs.Bits.{Bits, prefixBits, same}
@@ -17,6 +17,8 @@ use Rattle.table_rules.specs.Announce.{isHeld}
 use Rattle.table_update.specs.Calls.{prefixOnly}
 use Rattle.table_update.specs.History.{Call, announcing, withdrawing}
 use Rattle.message_calls.specs.Once.{those, among, onceAfter, Differ}
+
+-- `gone` are the withdrawn prefixes of a message and `come` the announced ones, each in its order
 
 -- two prefixes are one
 abbrev pub isOne : Prefix → Prefix → Bool

@@ -3,8 +3,8 @@ use mathlib.Core.Path.{_≡_}
 use mathlib.Core.Bool.{true, cond}
 use mathlib.Core.Logic.{_↔_}
 use mathlib.Core.List.{List}
-use Prim.Native.Nat.{ℕ, _<_, _≤_}
-use Rattle.promise.specs.Over.{Outcome, outcome}
+use Prim.Native.Nat.{ℕ, _<_}
+use Rattle.promise.specs.Over.{Outcome}
 use Rattle.trie.specs.Routes.{Routes}
 use Rattle.refusals.specs.Refusals.{noRoom}
 use Rattle.refusals.specs.declared.Answer.{Answer}

@@ -1,12 +1,11 @@
 -- The walk of the check through a part, by offsets. Assumes nothing.
-use mathlib.Core.Path.{_≡_, refl, sym, ap, _∙_}
+use mathlib.Core.Path.{_≡_, sym, ap, _∙_}
 use mathlib.Core.List.{List}
 use Prim.Native.Nat.{ℕ, _+_, _-_, _≤_, _<_}
 use native.Mathlib.Omega.{arith}
 use lib.ListN.{length}
 use Rattle.prefix.specs.declared.Prefix.{Prefix}
 use Rattle.refusals.specs.Refusals.{longPrefix, badMessage, refused, accepted}
-use Rattle.refusals.specs.declared.Answer.{Answer}
 use Rattle.octets.specs.Octets.{prefixSize}
 use Rattle.octets.specs.Taken.{takenAt}
 use Rattle.octets.specs.declared.Taken.the-variants.{Whole, Long, Cut}

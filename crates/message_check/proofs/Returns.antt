@@ -1,29 +1,20 @@
 -- Each answer of the check of a message, by what the code knows where it returns. Assumes nothing.
-use mathlib.Core.Path.{_≡_, refl, sym, ap, ap₂, _∙_}
-use mathlib.Core.Bool.{Bool, true, false, not, cond, _||_, true≢false}
+use mathlib.Core.Path.{_≡_, sym, ap, _∙_}
+use mathlib.Core.Bool.{true, false, not, true≢false}
 use mathlib.Core.List.{List}
-use Prim.Native.Nat.{ℕ, zero, suc, _+_, _-_, _≤_, _<_}
+use Prim.Native.Nat.{ℕ, _+_, _-_, _≤_, _<_}
 use native.Mathlib.Omega.{arith}
-use lib.Dec.{eqb, ltb}
-use lib.ListN.{length, getD, take, drop, length-drop}
-use lib.Seq.{length-take-le}
+use lib.Dec.{eqb}
+use lib.ListN.{length, getD}
 use borrow.Author.Tests.{eq-eqb, ne-eqb, lt-ltb, le-ltb}
-use Rattle.lists.specs.Below.{someBelow}
 use Rattle.lists.proofs.Below.{some-below, passing}
 use Rattle.lists.proofs.Tests.{test-no}
-use Rattle.refusals.specs.Refusals.{badMessage, refused, accepted, andThen}
-use Rattle.refusals.specs.declared.Answer.{Answer}
-use Rattle.message_rules.specs.Message.{markerSize, lengthAt, typeAt, withdrawnSizeAt, withdrawnAt, leastSize, mostSize, updateType, ones, unmarked, fieldAt, attributesSizeAt, announcedAt, withdrawnPart, announcedPart, withdrawnSize}
-use Rattle.message_rules.specs.Check.{wrongLength, innerCheck, headCheck, partCheck, messageCheck, Fits}
-use Rattle.message_rules.proofs.Heads.{head-fits}
-use Rattle.message_check.specs.Checked.{refusedBy, checkedOf, Field}
-use Rattle.message_check.specs.declared.Checked.{Checked}
+use Rattle.refusals.specs.Refusals.{badMessage, refused, accepted}
+use Rattle.message_rules.specs.Message.{markerSize, lengthAt, typeAt, withdrawnSizeAt, withdrawnAt, leastSize, updateType, ones, unmarked, fieldAt, attributesSizeAt, announcedAt, withdrawnSize}
+use Rattle.message_rules.specs.Check.{wrongLength, innerCheck, headCheck}
 
 module _ (message : List ℕ) where
   -- the marker
-
-  isOther : ℕ → Bool
-  isOther i = not (eqb (getD message i 0) ones)
 
   pub marked-not : (i : ℕ) → i < markerSize → (getD message i 0 ≡ ones → ⊥) → true ≡ unmarked message
   marked-not i h ne =

@@ -1,10 +1,8 @@
 -- The check of a message from the checks of its head and its parts, in their order. Assumes nothing.
-use mathlib.Core.Path.{_≡_, refl, sym, ap, ap₂, _∙_}
-use mathlib.Core.Bool.{cond}
+use mathlib.Core.Path.{_≡_, sym, ap, ap₂, _∙_}
 use mathlib.Core.List.{List}
-use Prim.Native.Nat.{ℕ, _+_, _-_, _≤_, _<_}
+use Prim.Native.Nat.{ℕ, _+_, _-_, _≤_}
 use native.Mathlib.Omega.{arith}
-use lib.Dec.{eqb}
 use lib.ListN.{length, take, drop, length-drop}
 use lib.Seq.{length-take-le, take-all}
 use borrow.Author.Tests.{eq-eqb, ne-eqb}
@@ -14,7 +12,6 @@ use Rattle.message_rules.specs.Check.{headCheck, partCheck, messageCheck, Fits}
 use Rattle.message_rules.proofs.Heads.{head-fits}
 use Rattle.message_rules.proofs.Refused.{then-refused, then-next}
 use Rattle.message_check.specs.Checked.{refusedBy, checkedOf}
-use Rattle.message_check.specs.declared.Checked.{Checked}
 
 module _ (w : ℕ) (message : List ℕ) where
   checked-refused : (a : Answer) → a ≡ messageCheck w message → (a .number ≡ 0 → ⊥) → refusedBy a ≡ checkedOf w message

@@ -1,6 +1,6 @@
-use mathlib.Core.Path.{ap, sym, _∙_}
+use mathlib.Core.Path.{ap, sym}
 use mathlib.Core.Bool.{Bool, cond}
-use Prim.Native.Nat.{ℕ, _+_}
+use Prim.Native.Nat.{_+_}
 use Rattle.table_rows.specs.Words.{fiveWords}
 use Rattle.message_apply.proofs.Ones.{added-one}
 use borrow.Author.Needs.{needs}

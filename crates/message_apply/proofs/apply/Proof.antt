@@ -1,5 +1,4 @@
 use mathlib.Core.Path.{sym, _∙_}
-use native.Mathlib.Omega.{arith}
 use Rattle.message_apply.proofs.Calls.{apply-refused, apply-wrong-port, apply-disorder, parts-within, applies, apply-done}
 use borrow.Author.Needs.{needs}
 use Rattle.message_apply.proofs.apply.Statement.{statement}

@@ -1,4 +1,4 @@
-use mathlib.Core.Path.{sym, _∙_}
+use mathlib.Core.Path.{_∙_}
 use native.Mathlib.Omega.{arith}
 use Rattle.message_apply.proofs.Counted.{few, announced-small, hits-small, too-many, left-small, applied}
 use borrow.Author.Needs.{needs}

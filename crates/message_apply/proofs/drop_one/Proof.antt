@@ -1,5 +1,4 @@
 use mathlib.Core.Path.{ap, _∙_}
-use native.Mathlib.Omega.{arith}
 use Rattle.table_rules.specs.Announce.{isHeld}
 use Rattle.table_rows.specs.Words.{fiveWords}
 use Rattle.routes.specs.declared.Route.{Route}

@@ -1,5 +1,4 @@
 use mathlib.Core.Path.{sym, _∙_}
-use native.Mathlib.Omega.{arith}
 use Rattle.message_rules.proofs.Heads.{right-length}
 use Rattle.message_check.proofs.Returns.{head-short, head-unmarked, head-wrong-length, head-inner, head-other}
 use borrow.Author.Needs.{needs}

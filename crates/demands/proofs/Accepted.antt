@@ -1,11 +1,13 @@
 -- Something that each call may not refuse, by its checks: an empty file, list, table or image, or the whole space to port 1. Assumes
 -- nothing.
 use mathlib.Core.Path.{_≡_, refl, ap, subst, _∙_}
+use mathlib.Core.Bool.{true}
 use mathlib.Core.List.{List, [], _∷_}
 use Prim.Native.Nat.{ℕ, _-_, _^_, _≤_}
 use native.Mathlib.Omega.{arith}
 use lib.Count.{ones, onesIn}
 use lib.ListN.{length, getD, replicate}
+use borrow.Author.Tests.{le-leb}
 use Rattle.promise.specs.Over.{Outcome}
 use Rattle.bits.specs.Bits.{bits}
 use Rattle.trie.specs.Scan.{longest, plainScan}
@@ -22,6 +24,7 @@ use Rattle.file_rules.proofs.Trips.{empty-file}
 use Rattle.table_rows.specs.Words.{rowAt, storeRow, fiveWords}
 use Rattle.table_rules.specs.Check.{isGood}
 use Rattle.table_rules.specs.Save.{saveInto}
+use Rattle.table_rules.proofs.Good.{check-is-good}
 use Rattle.table_update.specs.Calls.{buildInto}
 use Rattle.image_rules.specs.Image.{someLonger}
 use Rattle.image_rules.specs.Lookup as image
@@ -35,6 +38,10 @@ use Rattle.segment_rules.specs.Tables.{firstSize}
 use Rattle.segment_rules.specs.Build.{Stores, buildSegments}
 use Rattle.octets.specs.Bytes.{digits}
 use Rattle.message_rules.specs.Written.{writeMessage}
+use Rattle.message_calls.specs.History.{message}
+use Rattle.count_rules.specs.Tally.{ports}
+use Rattle.count_rules.specs.Counted.{countsOf, makeCounts, countedOn}
+use Rattle.count_rules.proofs.Counted.{length-counts}
 use Rattle.maftehon.specs.Reply.{Segmented}
 use Rattle.demands.specs.SegmentChecks.{SixteenBits}
 use Rattle.demands.specs.Boundary.{Boundary}
@@ -45,7 +52,8 @@ use Rattle.demands.proofs.OfLists.{read-refuses, write-refuses, check-r
 use Rattle.demands.proofs.OfTables.{table-check-refuses, build-refuses, save-refuses, table-runs-refuses}
 use Rattle.demands.proofs.OfImages.{image-build-refuses, image-lookup-refuses}
 use Rattle.demands.proofs.OfSegments.{segments-build-refuses, words-on}
-use Rattle.demands.proofs.OfMessages.{apply-refuses, withdrawal-refuses}
+use Rattle.demands.proofs.OfMessages.{withdrawal-refuses}
+use Rattle.demands.proofs.OfCounts.{make-refuses, update-refuses, fresh-is-plain}
 use Rattle.demands.proofs.Messages.{nothing, nothing-bytes, nothing-applied}
 use Rattle.demands.proofs.Images.{image-is}
 use Rattle.demands.proofs.Roomy.{Roomy, few-built, zero-found, zeroStores, zeros-roomy, zeros-bits}
@@ -126,6 +134,24 @@ one-run-fits : numberOf (writeRuns (run 0 (2 ^ 32 - 1) 0 ∷ []) (replicate 3 0)
 unfolding writeRuns
 one-run-fits = refl
 
+-- the counts of a table of no route, made afresh and lent to a message with nothing in it
+abbrev noCounts : List ℕ
+noCounts = countsOf fiveWords 32 [] 0
+
+no-rows-good : isGood 32 0 (rowAt []) 0 ≡ true
+unfolding isGood rowAt storeRow
+no-rows-good = refl
+
+none-counted : numberOf (makeCounts fiveWords 32 [] 0 noCounts) ≡ 0
+unfolding makeCounts
+none-counted = rw (le-leb ports (length noCounts) (omega (arith, length-counts 32 (rowAt []) 0)), no-rows-good)
+
+nothing-counted : countedOn fiveWords 32 [] 0 noCounts (message nothing 1) .answer .number ≡ 0
+nothing-counted =
+    ap (λ (a : Answer). a .number)
+    (fresh-is-plain [] 0 (message nothing 1) (check-is-good 32 0 (rowAt []) 0 .0 no-rows-good .0) (check-is-good 32 0 (rowAt []) 0 .0 no-rows-good .1) .0)
+    ∙ nothing-applied
+
 pub no-call-refuses-all : NoCallRefusesAll
 unfolding isGood saveInto rowAt storeRow
 no-call-refuses-all B d =
@@ -187,19 +213,26 @@ no-call-refuses-all B d =
       segments-build = ([], zeroStores, segments-built B d zeroStores zeros-roomy);
       segments-lookup = (zeroStores, 0, segments-found B d zeroStores zeros-bits (zeros-roomy .first) refl);
       segments-entries = ([], [], 0, λ x m. d .segments-entries [] [] 0 x m .exact .0);
-      message-apply = (
-        nothing,
-        1,
-        [],
-        0,
-        λ o m. D .message-apply nothing 1 [] 0 _ _ _ _ (d .message-apply nothing 1 [] 0 o nothing-bytes m .exact)
-            (apply-refuses 32 refl nothing 1 [] 0 nothing-bytes .exact) .0
-            ∙ nothing-applied,
-      );
       message-write = (
         [],
         replicate 23 0,
         λ o m. D .message-write [] (replicate 23 0) _ _ _ _ (d .message-write [] (replicate 23 0) o m .exact) (withdrawal-refuses 32 [] (replicate 23 0) .exact) .0
             ∙ none-written,
+      );
+      counts-make = (
+        [],
+        0,
+        noCounts,
+        λ o m. D .counts-make [] 0 noCounts _ _ _ _ (d .counts-make [] 0 noCounts o m .exact) (make-refuses 32 [] 0 noCounts .exact) .0 ∙ none-counted,
+      );
+      message-applied = (
+        [],
+        0,
+        noCounts,
+        nothing,
+        1,
+        λ x m. D .update [] 0 noCounts (message nothing 1) _ _ _ _ (d .update [] 0 noCounts (message nothing 1) x nothing-bytes m .exact)
+            (update-refuses 32 refl [] 0 noCounts (message nothing 1) nothing-bytes .exact) .0
+            ∙ nothing-counted,
       );
     }

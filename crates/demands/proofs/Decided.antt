@@ -47,9 +47,6 @@ no-thirteen B d =
       list-runs = λ list runs o c. no .list-runs list runs _ _ (d .list-runs list runs o c .exact);
       table-check = λ rows n x c. no .table-check rows n _ _ (d .table-check rows n x c .exact);
       table-lookup = λ rows n a x c. no .table-lookup rows n a _ _ (d .table-lookup rows n a x c .exact);
-      table-announce = λ rows n q o fits c. no .table-announce rows n q _ _ (d .table-announce rows n q o fits c .exact);
-      table-withdraw = λ rows n value len o fits c.
-          no .table-withdraw rows n value len _ _ (d .table-withdraw rows n value len o fits c .exact);
       table-build = λ list rows o c. no .table-build list rows _ _ (d .table-build list rows o c .exact);
       table-save = λ rows n list o c. no .table-save rows n list _ _ (d .table-save rows n list o c .exact);
       table-runs = λ rows n runs o c. no .table-runs rows n runs _ _ (d .table-runs rows n runs o c .exact);
@@ -58,6 +55,7 @@ no-thirteen B d =
       segments-build = λ list lent x c. no .segments-build list lent _ _ (d .segments-build list lent x c .exact);
       segments-lookup = λ s a x bits c. no .segments-lookup s a _ _ (d .segments-lookup s a x bits c .exact);
       segments-entries = λ packed plain entry x c. no .segments-entries _ _ (d .segments-entries packed plain entry x c .exact);
-      message-apply = λ message port rows n o bytes c. no .message-apply message port rows n _ _ (d .message-apply message port rows n o bytes c .exact);
       message-write = λ list message o c. no .message-write list message _ _ (d .message-write list message o c .exact);
+      counts-make = λ rows n counts o c. no .counts-make rows n counts _ _ (d .counts-make rows n counts o c .exact);
+      update = λ rows n counts e x fits c. no .update rows n counts e _ _ (d .update rows n counts e x fits c .exact);
     }

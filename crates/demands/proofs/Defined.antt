@@ -14,8 +14,6 @@ defined-follows = record {
   list-runs = λ list runs o is. is;
   table-check = λ rows n x is. is;
   table-lookup = λ rows n a x is. is;
-  table-announce = λ rows n q o is. is;
-  table-withdraw = λ rows n value len o is. is;
   table-build = λ list rows o is. is;
   table-save = λ rows n list o is. is;
   table-runs = λ rows n runs o is. is;
@@ -24,8 +22,9 @@ defined-follows = record {
   segments-build = λ list lent x is. is;
   segments-lookup = λ s a x is. is;
   segments-entries = λ packed plain entry x is. is;
-  message-apply = λ message port rows n o is. is;
   message-write = λ list message o is. is;
+  counts-make = λ rows n counts o is. is;
+  update = λ rows n counts e x is. is;
 }
 
 defined-ends : Ends defined
@@ -37,8 +36,6 @@ defined-ends = record {
   list-runs = λ list runs. (_, refl);
   table-check = λ rows n. (_, refl);
   table-lookup = λ rows n a. (_, refl);
-  table-announce = λ rows n q. (_, refl);
-  table-withdraw = λ rows n value len. (_, refl);
   table-build = λ list rows. (_, refl);
   table-save = λ rows n list. (_, refl);
   table-runs = λ rows n runs. (_, refl);
@@ -47,8 +44,9 @@ defined-ends = record {
   segments-build = λ list lent. (_, refl);
   segments-lookup = λ s a. (_, refl);
   segments-entries = λ packed plain entry. (_, refl);
-  message-apply = λ message port rows n. (_, refl);
   message-write = λ list message. (_, refl);
+  counts-make = λ rows n counts. (_, refl);
+  update = λ rows n counts e. (_, refl);
 }
 
 pub defined-meets : DefinedMeets

@@ -56,7 +56,8 @@ use Rattle.segment_rules.specs.Tables.{plainPointer}
 use Rattle.segment_rules.specs.Parts.{entriesOf}
 use Rattle.segment_rules.proofs.Walk.{reads-le as segment-reads-le}
 use Rattle.segment_rules.proofs.AfterBuild.{built-is-scan as segments-built-is-scan}
-use Rattle.maftehon.specs.Reply.{Imaged, repliedImage, Segmented, repliedSegments}
+use Rattle.count_rules.specs.Counted.{Counted}
+use Rattle.maftehon.specs.Reply.{Imaged, repliedImage, Segmented, repliedSegments, repliedPlace, Booked, repliedBook}
 use Rattle.demands.specs.Lamp.{Verdict, done, Lamp}
 use Rattle.demands.specs.SegmentChecks.{segmentReads, entriesStand}
 use Rattle.demands.specs.Boundary.{Boundary, place, result, readCount}
@@ -66,13 +67,14 @@ use Rattle.demands.specs.Demands as demands
 use Rattle.demands.specs.Demands.{Demand1, Demand2, Demand3, OneListing, Demands}
 use Rattle.demands.proofs.Shown.{On, Refuses, RefusesOnly, looking}
 use Rattle.demands.proofs.OfLists.{read-refuses, write-refuses, check-refuses, scan-refuses, list-runs-refuses}
-use Rattle.demands.proofs.OfTables.{table-check-refuses, lookup-refuses, announce-refuses, withdraw-refuses, build-refuses, save-refuses, table-runs-refuses}
+use Rattle.demands.proofs.OfTables.{table-check-refuses, lookup-refuses, build-refuses, save-refuses, table-runs-refuses}
 use Rattle.demands.proofs.OfImages.{building, image-build-refuses, image-lookup-refuses}
 use Rattle.demands.proofs.OfSegments.{segmenting, segments-build-refuses, words-on, entries-stand}
-use Rattle.demands.proofs.OfMessages.{apply-refuses, withdrawal-refuses}
+use Rattle.demands.proofs.OfMessages.{withdrawal-refuses}
+use Rattle.demands.proofs.OfCounts.{booking, make-refuses, update-refuses}
 use Rattle.demands.proofs.Entries.{entries-there, entries-built}
 use Rattle.demands.proofs.Follows.{Follows, exports-follow}
-use Rattle.demands.proofs.Histories.{held-is}
+use Rattle.demands.proofs.Histories.{held-is, counted-is}
 
 -- What is refused in the library's answer is refused in the words that C gets.
 module _ (checks : Verdict) where
@@ -81,6 +83,20 @@ module _ (checks : Verdict) where
   laid-whole count lent o y e r =
       subst (demands.RefusesWhole checks (count ∷ []) lent) (sym e)
       (record { exact = r .exact; kept = λ wrong. (ap (λ (c : ℕ). y .answer .place ∷ c ∷ []) (r .kept wrong .0), r .kept wrong .1) })
+
+  laid-alone : (lent : List ℕ) (o : Outcome Reply) (y : Outcome Answer) → o ≡ repliedPlace y → Refuses checks 0 lent y
+      → demands.RefusesWhole checks [] lent o
+  laid-alone lent o y e r =
+      subst (demands.RefusesWhole checks [] lent) (sym e) (record { exact = r .exact; kept = λ wrong. (refl, r .kept wrong .1) })
+
+  laid-book : (n : ℕ) (rows counts : List ℕ) (x : Booked) (y : Counted) → x ≡ repliedBook y → On (booking n rows counts) checks y
+      → demands.RefusesBook checks n rows counts x
+  laid-book n rows counts x y e r =
+      subst (demands.RefusesBook checks n rows counts) (sym e)
+      (record {
+        exact = r .exact;
+        kept = λ wrong. let k = r .kept wrong in (ap (λ (c : ℕ). y .answer .place ∷ c ∷ []) (k .0), k .1, k .2);
+      })
 
   laid-place : (x : Reply) (y : Answer) → x ≡ placed y → RefusesOnly checks y → demands.Refuses checks [] x
   laid-place x y e r = subst (demands.Refuses checks []) (sym e) (record { exact = r .exact; kept = λ wrong. refl })
@@ -143,8 +159,6 @@ demand-1 B f = record {
             subst (λ (y : Reply). RowsRead 32 (rowAt rows) n a (readCount y) (y .number)) (sym is) (table-reads-are 32 (capacity rows) (rowAt rows) n a some few),
         λ outside. ap readCount is ∙ ⊎-elim (λ (e : n ≡ 0). ap (λ (y : Found). y .reads) (none .0 e)) (λ (h : capacity rows < n). ap (λ (y : Found). y .reads) (none .1 h)) outside,
       );
-  table-announce = λ rows n q o fits m. laid-whole _ n rows o _ (f .table-announce rows n q o m) (announce-refuses 32 rows n q fits);
-  table-withdraw = λ rows n value len o fits m. laid-whole _ n rows o _ (f .table-withdraw rows n value len o m) (withdraw-refuses 32 rows n value len fits);
   table-build = λ list rows o m. laid-whole _ 0 rows o _ (f .table-build list rows o m) (build-refuses 32 list rows);
   table-save = λ rows n list o m. laid-whole _ 0 list o _ (f .table-save rows n list o m) (save-refuses 32 rows n list);
   table-runs = λ rows n runs o m. laid-whole _ 0 runs o _ (f .table-runs rows n runs o m) (table-runs-refuses 32 rows n runs);
@@ -166,9 +180,9 @@ demand-1 B f = record {
   segments-stand = λ packed plain entry x m.
       subst (λ (y : Reply). entriesStand packed plain entry (result y) (readCount y)) (sym (f .segments-entries packed plain entry x m))
       (entries-stand packed plain entry .exact);
-  message-apply = λ message port rows n o bytes m.
-      laid-whole _ n rows o _ (f .message-apply message port rows n o m) (apply-refuses 32 refl message port rows n bytes);
   message-write = λ list message o m. laid-whole _ 0 message o _ (f .message-write list message o m) (withdrawal-refuses 32 list message);
+  counts-make = λ rows n counts o m. laid-alone _ counts o _ (f .counts-make rows n counts o m) (make-refuses 32 rows n counts);
+  update = λ rows n counts e x fits m. laid-book _ n rows counts x _ (f .update rows n counts e x m) (update-refuses 32 refl rows n counts e fits);
 }
 
 -- 32 bits are whole bytes
@@ -304,6 +318,7 @@ module _ (B : Boundary) (f : Follows B) where
     listed-list = λ list lent rs x o c z lists room m.
         f .list-runs list lent o m
         ∙ ap replied (list-runs-done 32 list lent rs (sym (ap (λ (r : Reply). r .number) (f .list-check list x c)) ∙ z) (listing-is-maximal _ _ rs .1 lists) room);
+    counted = counted-is B f;
   }
 
 pub one-listing : OneListing

@@ -18,6 +18,9 @@ use Rattle.demands.specs.SegmentChecks.{portChecks, entryChecks, wordChe
 use Rattle.octets.specs.Octets.{prefixSize, lenAt}
 use Rattle.message_rules.specs.Message.{withdrawnAt, announcedAt, withdrawnPart, announcedPart}
 use Rattle.demands.specs.MessageChecks.{eachPrefix, messageChecks}
+use Rattle.table_update.specs.History.{announcing, withdrawing}
+use Rattle.message_calls.specs.History.{Event, single, message}
+use Rattle.demands.specs.CountChecks.{stepChecks, afterRoom}
 use Rattle.demands.specs.Demands.{EachCall}
 use Rattle.demands.specs.Unused.{unused}
 
@@ -80,11 +83,21 @@ module _ (Such : Verdict → Type 0) (shown : (number place : ℕ) → eqb numbe
   of-prefixes w part from (suc k) at rest x =
       either _ _ _ (check _ _ _ _ refl (check _ _ _ _ refl (of-prefixes w part from k (at + prefixSize (lenAt part at)) rest x))) x
 
-  of-message : (w : ℕ) (message : List ℕ) (rest : Verdict) → Such rest → Such (messageChecks w message rest)
-  of-message w message rest x =
+  of-message : (w : ℕ) (bytes : List ℕ) (rest : Verdict) → Such rest → Such (messageChecks w bytes rest)
+  of-message w bytes rest x =
       check _ _ _ _ refl (check _ _ _ _ refl (check _ _ _ _ refl (check _ _ _ _ refl (check _ _ _ _ refl (check _ _ _ _ refl
-      (of-prefixes w (withdrawnPart message) withdrawnAt (length (withdrawnPart message)) 0 _
-      (of-prefixes w (announcedPart message) (announcedAt message) (length (announcedPart message)) 0 rest x)))))))
+      (of-prefixes w (withdrawnPart bytes) withdrawnAt (length (withdrawnPart bytes)) 0 _
+      (of-prefixes w (announcedPart bytes) (announcedAt bytes) (length (announcedPart bytes)) 0 rest x)))))))
+
+  -- 11 twice, and then a last check
+  of-step : (w : ℕ) (rows : List ℕ) (n : ℕ) (counts : List ℕ) (number : ℕ) (Wrong : Type 0) → eqb number unused ≡ false
+      → Such (stepChecks w rows n counts (refuse number 0 Wrong done))
+  of-step w rows n counts number Wrong other = check _ _ _ _ refl (check _ _ _ _ refl (last-check _ _ other))
+
+  of-update : (rows : List ℕ) (n : ℕ) (counts : List ℕ) (e : Event) → Such (afterRoom 32 rows n counts e)
+  of-update rows n counts (single (announcing q)) = of-route 32 0 q _ (of-step 32 rows n counts _ _ refl)
+  of-update rows n counts (single (withdrawing value len)) = check _ _ _ _ refl (check _ _ _ _ refl (of-step 32 rows n counts _ _ refl))
+  of-update rows n counts (message bytes port) = of-message 32 bytes _ (check _ _ _ _ refl (of-step 32 rows n counts _ _ refl))
 
   pub each-call : EachCall Such
   each-call = record {
@@ -94,8 +107,6 @@ module _ (Such : Verdict → Type 0) (shown : (number place : ℕ) → eqb numbe
     list-runs = λ list runs. of-list 32 list _ (last-check _ _ refl);
     table-check = λ rows n. last-check _ _ refl;
     table-lookup = λ rows n a. check _ _ _ _ refl (either _ _ _ accepts (of-rows 32 (rowAt rows) n a 32 0));
-    table-announce = λ rows n q. of-route 32 0 q _ (check _ _ _ _ refl (last-check _ _ refl));
-    table-withdraw = λ rows n value len. check _ _ _ _ refl (check _ _ _ _ refl (check _ _ _ _ refl (last-check _ _ refl)));
     table-build = λ list rows. of-list 32 list _ (last-check _ _ refl);
     table-save = λ rows n list. check _ _ _ _ refl (last-check _ _ refl);
     table-runs = λ rows n runs. check _ _ _ _ refl (last-check _ _ refl);
@@ -106,6 +117,7 @@ module _ (Such : Verdict → Type 0) (shown : (number place : ℕ) → eqb numbe
     segments-lookup = λ s a. of-words (λ _. 0) s a;
     segments-reads = λ s a. of-words (λ reads. reads) s a;
     segments-entries = accepts;
-    message-apply = λ message port rows n. of-message 32 message _ (check _ _ _ _ refl (check _ _ _ _ refl (last-check _ _ refl)));
     message-write = λ list message. of-list 32 list _ (last-check _ _ refl);
+    counts-make = λ rows n counts. check _ _ _ _ refl (last-check _ _ refl);
+    update = λ rows n counts e. check _ _ _ _ refl (of-update rows n counts e);
   }

@@ -1,6 +1,6 @@
 -- The starred bench examples hold. The withdrawal goes a step at a time, so that each computes with rows that are written out. Assumes
 -- nothing.
-use mathlib.Core.Path.{_≡_, refl, sym, ap, _∙_}
+use mathlib.Core.Path.{_≡_, refl, sym, ap, ap₂, _∙_}
 use mathlib.Core.Bool.{true, false}
 use mathlib.Core.List.{List, [], _∷_, _++_}
 use Prim.Native.Nat.{ℕ, _-_, _^_}
@@ -22,7 +22,12 @@ use Rattle.table_rules.specs.Check.{seen, noRows, seenAt, isGood}
 use Rattle.demands.proofs.Steps.{seen-row, best-none, best-own, best-below, cut-on, cut-last, relink-on, relink-here}
 use Rattle.table_rules.specs.Withdraw.{cut, relink, closeGap, withdrawn}
 use Rattle.table_rules.specs.Lookup.{walk, lookupIn}
+use Rattle.table_rules.proofs.Good.{check-is-good}
 use Rattle.table_update.specs.Calls.{withdrawIn, withdrawInto}
+use Rattle.table_update.specs.History.{withdrawing}
+use Rattle.message_calls.specs.History.{single}
+use Rattle.count_rules.specs.Counted.{countsOf, countedOn}
+use Rattle.refusals.specs.declared.Answer.{Answer}
 use Rattle.image_rules.specs.Image.{someLonger}
 use Rattle.image_rules.specs.Lookup.{lookupWords}
 use Rattle.image_rules.specs.Lookup as breadth
@@ -31,11 +36,12 @@ use Rattle.runs_rules.specs.Boundaries.{insert, boundaries, runsBy}
 use Rattle.runs_rules.specs.Listing as runs
 use Rattle.runs_rules.specs.Runs.{run}
 use Rattle.runs_rules.proofs.Listing.{listed-boundaries}
-use Rattle.maftehon.specs.Reply.{Imaged, repliedImage}
+use Rattle.maftehon.specs.Reply.{Imaged, repliedImage, Booked, repliedBook}
 use Rattle.demands.specs.Exports.{exports}
 use Rattle.demands.specs.Examples.{image-build, Answers, dirt, address, row, tableI, inTableI, found, seven, sixNodes, sevenPorts, twoHalves, StarredHold}
 use Rattle.demands.proofs.Follows.{exports-follow}
 use Rattle.demands.proofs.Images.{image-is}
+use Rattle.demands.proofs.OfCounts.{fresh-is-plain}
 use Rattle.demands.proofs.Accepted.{no-routes-fine}
 
 -- the route that a row of the rules' table holds
@@ -182,6 +188,17 @@ imaged-is s list nodes ports y is words x =
 abbrev wholeWords : Outcome Reply → List ℕ
 wholeWords o = (o .answer .number ∷ o .answer .answer) ++ o .lent
 
+-- lent the counts of its table, the withdrawal answers and leaves what it does without counts
+abbrev bookWords : Booked → List ℕ
+bookWords x = (x .reply .number ∷ x .reply .answer) ++ x .rows
+
+eight : bookWords (repliedBook (countedOn fiveWords 32 tableI 10 (countsOf fiveWords 32 tableI 10) (single (withdrawing (address 38 6) 6))))
+    ≡ wholeWords (replied (outcome (accepted 9) fifth))
+eight =
+    let order = check-is-good 32 (capacity tableI) (rowAt tableI) 10 .0 good in
+    let k = fresh-is-plain tableI 10 (single (withdrawing (address 38 6) 6)) (order .0) (order .1) in
+    ap₂ (λ (a : Answer) (rows : List ℕ). wholeWords (replied (outcome a rows))) (k .0) (k .1) ∙ ap (λ (o : Outcome Answer). wholeWords (replied o)) withdrawal-is
+
 nine-found : lookupWords 32 1 sixNodes sevenPorts (address 5 4) ≡ answered 1 2
 unfolding breadth.walk lookupWords ones onesIn
 nine-found = refl
@@ -204,8 +221,7 @@ starred-hold = (
               looked-is 15 4 10 5 refl,
               (
                 λ words x.
-                    sym (x .2)
-                    ∙ ap wholeWords (exports-follow .table-withdraw tableI 10 (address 38 6) 6 (x .0) (x .1) ∙ ap replied withdrawal-is),
+                    sym (x .2) ∙ ap bookWords (exports-follow .update tableI 10 _ (single (withdrawing (address 38 6) 6)) (x .0) (x .1)) ∙ eight,
                 (
                   imaged-is 1 seven (dirt 16) (dirt 9) _ nine,
                   (

@@ -1,19 +1,23 @@
--- The five impostors break the demands: each at a history of a call or two, or at a build, that is written out. Assumes nothing.
-use mathlib.Core.Path.{_≡_, refl, sym, ap, subst, _∙_}
+-- The impostors break the demands: each at a history of a call or two, or at a build, that is written out. Assumes nothing.
+use mathlib.Core.Path.{_≡_, refl, sym, ap, subst, fun-ext, _∙_}
 use mathlib.Core.Logic.{_⊎_, inl, inr}
 use mathlib.Core.Bool.{Bool, true, false, cond, _||_, false≢true}
 use mathlib.Core.List.{List, [], _∷_}
-use Prim.Native.Nat.{ℕ, zero, suc, _+_, _<_, _≤_}
+use Prim.Native.Nat.{ℕ, zero, suc, _+_, _^_, _<_, _≤_}
 use native.Mathlib.Omega.{arith}
-use lib.ListN.{replicate}
+use native.Mathlib.Nat.{zero-add}
+use lib.Dec.{eqb}
+use lib.ListN.{length, getD, replicate}
 use borrow.Author.Tests.{lt-ltb}
 use Rattle.promise.specs.Over.{Outcome}
 use Rattle.lists.proofs.Tests.{either, lt-or-le}
+use Rattle.lists.proofs.Below.{number-zero}
 use Rattle.bits.specs.Bits.{Bits, bits, same}
 use Rattle.bits.proofs.Bits.{same-refl, same-eq}
 use Rattle.prefix.specs.Prefixes.{prefix}
-use Rattle.trie.specs.Routes.{Routes}
-use Rattle.trie.specs.Scan.{longest, plainScan}
+use Rattle.trie.specs.Routes.{Routes, noRoutes, side}
+use Rattle.trie.specs.Scan.{longest, plainScan, orElse, scan}
+use Rattle.trie.proofs.Scan.{scan-none}
 use Rattle.refusals.specs.Refusals.{found as answered}
 use Rattle.refusals.specs.Reply.{Reply, looked}
 use Rattle.lists.specs.Numbered.{listOf}
@@ -29,7 +33,13 @@ use Rattle.table_update.specs.History.{announcing, withdrawing, Table}
 use Rattle.message_rules.specs.Message.{withdrawnIn, announcedIn}
 use Rattle.message_calls.specs.Once.{among, Differ}
 use Rattle.message_calls.specs.Named.{hasBits, finalSet, finalCount, Size}
-use Rattle.message_calls.specs.History.{single, message}
+use Rattle.message_calls.specs.History.{Event, single, message, EventFits}
+use Rattle.count_rules.specs.Tally.{ports, addresses}
+use Rattle.count_rules.specs.Counted.{countsOf}
+use Rattle.count_rules.proofs.Tally.{addresses-stretch}
+use Rattle.count_rules.proofs.OfTable.{count-is}
+use Rattle.table_runs.proofs.OfTable.{capacity-le}
+use Rattle.refusals.specs.declared.Answer.{Answer}
 use Rattle.message_calls.proofs.Once.{no-more}
 use Rattle.message_calls.proofs.Sized.{good-size, size-le}
 use Rattle.message_calls.proofs.Theorems.{final-sized}
@@ -39,16 +49,17 @@ use Rattle.segment_rules.specs.Theorems.{readsOf}
 use Rattle.segment_rules.specs.Build.{Stores, buildSegments}
 use Rattle.maftehon.specs.Reply.{Imaged, Segmented}
 use Rattle.demands.specs.Boundary.{Boundary, result, readCount, Ends}
-use Rattle.demands.specs.History.{Step, May, left, emptyTable, heldBy}
-use Rattle.demands.specs.Demands.{Demands}
-use Rattle.demands.specs.Checks.{NoPort, announceChecks, withdrawChecks, NotHeld}
+use Rattle.demands.specs.History.{Step, left, emptyTable, portSince, heldBy}
+use Rattle.demands.specs.Demands.{CountsAre, Demands}
+use Rattle.demands.specs.Checks.{NoPort, NotHeld}
+use Rattle.demands.specs.CountChecks.{StaleCounts, updateChecks}
 use Rattle.demands.specs.MessageChecks.{TooMany}
 use Rattle.demands.specs.Impostors.{AppliesAnnouncementsAlone, StopsAtTheFirst, IgnoresAnnouncements, IgnoresWithdrawals, FixedPort, FixedPortOfImage, FixedPortOfSegments, ImpostorsStopped}
 use Rattle.demands.proofs.Decided.{demand-1-decides}
 use Rattle.demands.proofs.OfTables.{build-refuses}
 use Rattle.demands.proofs.OfImages.{image-build-refuses}
 use Rattle.demands.proofs.OfSegments.{segments-build-refuses}
-use Rattle.demands.proofs.OfMessages.{apply-refuses}
+use Rattle.demands.proofs.OfCounts.{update-refuses, fresh-long, fresh-is-plain}
 use Rattle.demands.proofs.Messages.{wholeWithdrawn, whole-bytes, whole-checked, whole-withdraws, whole-announces, twoAnnounced, two-bytes, two-withdraws, two-announces, two-applied, checked-through}
 use Rattle.demands.proofs.Roomy.{zeroStores, zeros-roomy}
 use Rattle.demands.proofs.Accepted.{wholeSpace, no-routes-built, whole-space-built, no-routes-imaged, whole-space-imaged, no-routes-segmented, whole-space-segmented, no-call-refuses-all}
@@ -63,12 +74,26 @@ zeros = replicate 5 0
 abbrev Good : Table → Routes → Type 0
 Good t S = GoodFor 32 (capacity (t .words)) (rowAt (t .words)) (t .count) S
 
--- what the checks of an announcement, or of a withdrawal, of the whole space say of a table in good order
-announce-fine : (t : Table) (S : Routes) (port : ℕ) → Good t S → 0 < port → port < 4095 → (0 < S []) ⊎ (t .count < capacity (t .words))
-    → announceChecks 32 (t .words) (t .count) (whole port) 0 0
+-- the counts of a table, which every update below is lent
+abbrev fresh : Table → List ℕ
+fresh t = countsOf fiveWords 32 (t .words) (t .count)
+
+-- there are 4,095 of them, and in a table in good order none is stale
+roomy : (t : Table) → length (fresh t) < ports → ⊥
+roomy t h = omega (arith, fresh-long (t .words) (t .count))
+
+in-step : (t : Table) (S : Routes) → Good t S → StaleCounts 32 (t .words) (t .count) (fresh t) → ⊥
+in-step t S good stale =
+    let x = stale S good in
+    x .2 (count-is 32 (capacity (t .words)) (rowAt (t .words)) (t .count) S good (capacity-le (t .words)) (x .0) (x .1))
+
+-- what the checks of an announcement, or of a withdrawal, of the whole space say of a table in good order that is lent with its counts
+announce-fine : (t : Table) (S : Routes) (counts : List ℕ) (port : ℕ) → Good t S → (length counts < ports → ⊥)
+    → (StaleCounts 32 (t .words) (t .count) counts → ⊥) → 0 < port → port < 4095 → (0 < S []) ⊎ (t .count < capacity (t .words))
+    → updateChecks 32 (t .words) (t .count) counts (single (announcing (whole port))) 0 0
 unfolding bits
-announce-fine t S port good some few room =
-    inr (λ h. omega arith, inr (λ h. false≢true (sym h), inr (noPort, inr (λ wrong. wrong (S, good), inr (full room, (refl, refl))))))
+announce-fine t S counts port good long step some few room =
+    inr (long, inr (λ h. omega arith, inr (λ h. false≢true (sym h), inr (noPort, inr (λ wrong. wrong (S, good), inr (step, inr (full room, (refl, refl))))))))
   where
     noPort : (port ≡ 0) ⊎ (4094 < port) → ⊥
     noPort (inl e) = omega arith
@@ -78,10 +103,10 @@ announce-fine t S port good some few room =
     full (inl held) wrong = omega (arith, wrong .0 S good)
     full (inr h) wrong = omega (arith, wrong .1)
 
-withdraw-fine : (t : Table) (S : Routes) → Good t S → 0 < S [] → withdrawChecks 32 (t .words) (t .count) 0 0 0 0
+withdraw-fine : (t : Table) (S : Routes) → Good t S → 0 < S [] → updateChecks 32 (t .words) (t .count) (fresh t) (single (withdrawing 0 0)) 0 0
 unfolding bits
 withdraw-fine t S good held =
-    inr (λ h. omega arith, inr (λ h. false≢true (sym h), inr (λ wrong. wrong (S, good), inr (λ none. omega (arith, none S good), (refl, refl)))))
+    inr (roomy t, inr (λ h. omega arith, inr (λ h. false≢true (sym h), inr (λ wrong. wrong (S, good), inr (in-step t S good, inr (λ none. omega (arith, none S good), (refl, refl)))))))
 
 -- one memory holds one port for the whole space, whatever n is said to be
 two-ports : (rows : List ℕ) (n m : ℕ) (S T : Routes) → GoodFor 32 (capacity rows) (rowAt rows) n S → GoodFor 32 (capacity rows) (rowAt rows) m T
@@ -107,22 +132,34 @@ two-sets rows n S T x y one none =
     omega (arith, one, none, ap (λ (R : Routes). R []) (good-unique 32 (capacity rows) (rowAt rows) n S T x y))
 
 module _ (B : Boundary) (ends : Ends B) (d : Demands B) where
+  -- an update of a table, lent the counts of that, and that it may be so
+  abbrev made : Table → Event → Step
+  made t e = record { call = e; lent = fresh t; outcome = ends .update (t .words) (t .count) (fresh t) e .0 }
+
+  may : (t : Table) (e : Event) → B .update (t .words) (t .count) (fresh t) e (made t e .outcome)
+  may t e = ends .update (t .words) (t .count) (fresh t) e .1
+
+  -- it is accepted where its checks pass
+  taken : (t : Table) (e : Event) → EventFits 32 e → updateChecks 32 (t .words) (t .count) (fresh t) e 0 0 → made t e .outcome .reply .number ≡ 0
+  taken t e fits fine =
+      demand-1-decides .update (t .words) (t .count) (fresh t) e _ _ 0 0
+      (d .one .update (t .words) (t .count) (fresh t) e (made t e .outcome) fits (may t e) .exact) fine
+      .0
+
   -- From five zero words, the whole space is announced to port 1.
   abbrev first : Step
-  first = record { call = single (announcing (whole 1)); outcome = ends .table-announce zeros 0 (whole 1) .0 }
+  first = made (emptyTable zeros) (single (announcing (whole 1)))
 
-  first-may : May B (emptyTable zeros) (single (announcing (whole 1))) (first .outcome)
-  first-may = ends .table-announce zeros 0 (whole 1) .1
+  first-may : B .update zeros 0 (fresh (emptyTable zeros)) (single (announcing (whole 1))) (first .outcome)
+  first-may = may (emptyTable zeros) (single (announcing (whole 1)))
 
   empty-good : Good (emptyTable zeros) (heldBy [])
   empty-good = d .three .held zeros [] tt
 
-  first-accepted : first .outcome .answer .number ≡ 0
+  first-accepted : first .outcome .reply .number ≡ 0
   first-accepted =
-      demand-1-decides .table-announce zeros 0 (whole 1) _ _ 0 0
-      (d .one .table-announce zeros 0 (whole 1) (first .outcome) (omega arith) first-may .exact)
-      (announce-fine (emptyTable zeros) (heldBy []) 1 empty-good (omega arith) (omega arith) (inr (omega arith)))
-      .0
+      taken (emptyTable zeros) (single (announcing (whole 1))) (omega arith)
+      (announce-fine (emptyTable zeros) (heldBy []) (fresh (emptyTable zeros)) 1 empty-good (roomy (emptyTable zeros)) (in-step (emptyTable zeros) (heldBy []) empty-good) (omega arith) (omega arith) (inr (omega arith)))
 
   first-good : Good (left first) (heldBy (first ∷ []))
   first-good = d .three .held zeros (first ∷ []) (omega arith, first-may, tt)
@@ -137,17 +174,15 @@ module _ (B : Boundary) (ends : Ends B) (d : Demands B) where
 
   -- Port 2 is announced for it.
   abbrev again : Step
-  again = record { call = single (announcing (whole 2)); outcome = ends .table-announce (left first .words) (left first .count) (whole 2) .0 }
+  again = made (left first) (single (announcing (whole 2)))
 
-  again-may : May B (left first) (single (announcing (whole 2))) (again .outcome)
-  again-may = ends .table-announce (left first .words) (left first .count) (whole 2) .1
+  again-may : B .update (left first .words) (left first .count) (fresh (left first)) (single (announcing (whole 2))) (again .outcome)
+  again-may = may (left first) (single (announcing (whole 2)))
 
-  again-accepted : again .outcome .answer .number ≡ 0
+  again-accepted : again .outcome .reply .number ≡ 0
   again-accepted =
-      demand-1-decides .table-announce (left first .words) (left first .count) (whole 2) _ _ 0 0
-      (d .one .table-announce (left first .words) (left first .count) (whole 2) (again .outcome) (omega arith) again-may .exact)
-      (announce-fine (left first) (heldBy (first ∷ [])) 2 first-good (omega arith) (omega arith) (inl (omega (arith, first-held))))
-      .0
+      taken (left first) (single (announcing (whole 2))) (omega arith)
+      (announce-fine (left first) (heldBy (first ∷ [])) (fresh (left first)) 2 first-good (roomy (left first)) (in-step (left first) (heldBy (first ∷ [])) first-good) (omega arith) (omega arith) (inl (omega (arith, first-held))))
 
   again-good : Good (left again) (heldBy (first ∷ again ∷ []))
   again-good = d .three .held zeros (first ∷ again ∷ []) (omega arith, first-may, (omega arith, again-may, tt))
@@ -158,17 +193,14 @@ module _ (B : Boundary) (ends : Ends B) (d : Demands B) where
 
   -- Or it is withdrawn.
   abbrev gone : Step
-  gone = record { call = single (withdrawing 0 0); outcome = ends .table-withdraw (left first .words) (left first .count) 0 0 .0 }
+  gone = made (left first) (single (withdrawing 0 0))
 
-  gone-may : May B (left first) (single (withdrawing 0 0)) (gone .outcome)
-  gone-may = ends .table-withdraw (left first .words) (left first .count) 0 0 .1
+  gone-may : B .update (left first .words) (left first .count) (fresh (left first)) (single (withdrawing 0 0)) (gone .outcome)
+  gone-may = may (left first) (single (withdrawing 0 0))
 
-  gone-accepted : gone .outcome .answer .number ≡ 0
+  gone-accepted : gone .outcome .reply .number ≡ 0
   gone-accepted =
-      demand-1-decides .table-withdraw (left first .words) (left first .count) 0 0 _ _ 0 0
-      (d .one .table-withdraw (left first .words) (left first .count) 0 0 (gone .outcome) (omega arith) gone-may .exact)
-      (withdraw-fine (left first) (heldBy (first ∷ [])) first-good (omega (arith, first-held)))
-      .0
+      taken (left first) (single (withdrawing 0 0)) (omega arith) (withdraw-fine (left first) (heldBy (first ∷ [])) first-good (omega (arith, first-held)))
 
   gone-good : Good (left gone) (heldBy (first ∷ gone ∷ []))
   gone-good = d .three .held zeros (first ∷ gone ∷ []) (omega arith, first-may, (omega arith, gone-may, tt))
@@ -180,7 +212,7 @@ module _ (B : Boundary) (ends : Ends B) (d : Demands B) where
   -- rows that are left as they were hold port 1 for the whole space, and no other
   later-announced : IgnoresAnnouncements B → ⊥
   later-announced ignores =
-      let kept = ignores (left first .words) (left first .count) (whole 2) (again .outcome) (omega (arith, first-row .1)) again-may again-accepted in
+      let kept = ignores (left first .words) (left first .count) (fresh (left first)) (whole 2) (again .outcome) (omega (arith, first-row .1)) again-may again-accepted in
       two-ports (left first .words) (left first .count) (left again .count) (heldBy (first ∷ [])) (heldBy (first ∷ again ∷ [])) first-good
       (subst (λ (rows : List ℕ). GoodFor 32 (capacity rows) (rowAt rows) (left again .count) (heldBy (first ∷ again ∷ []))) kept again-good)
       first-held again-held
@@ -188,7 +220,7 @@ module _ (B : Boundary) (ends : Ends B) (d : Demands B) where
   -- a table that is left as it was holds a route that is not held
   later-withdrawn : IgnoresWithdrawals B → ⊥
   later-withdrawn ignores =
-      let kept = ignores (left first .words) (left first .count) 0 0 (gone .outcome) (omega (arith, first-row .1)) gone-may gone-accepted in
+      let kept = ignores (left first .words) (left first .count) (fresh (left first)) 0 0 (gone .outcome) (omega (arith, first-row .1)) gone-may gone-accepted in
       two-sets (left first .words) (left first .count) (heldBy (first ∷ [])) (heldBy (first ∷ gone ∷ [])) first-good
       (subst (λ (n : ℕ). GoodFor 32 (capacity (left first .words)) (rowAt (left first .words)) n (heldBy (first ∷ gone ∷ []))) (kept .1)
       (subst (λ (rows : List ℕ). GoodFor 32 (capacity rows) (rowAt rows) (left gone .count) (heldBy (first ∷ gone ∷ []))) (kept .0) gone-good))
@@ -300,10 +332,10 @@ module _ (B : Boundary) (ends : Ends B) (d : Demands B) where
   after = left (first B ends d)
 
   abbrev withdrawn : Step
-  withdrawn = record { call = message wholeWithdrawn 1; outcome = ends .message-apply wholeWithdrawn 1 (after .words) (after .count) .0 }
+  withdrawn = made B ends d after (message wholeWithdrawn 1)
 
-  withdrawn-may : May B after (message wholeWithdrawn 1) (withdrawn .outcome)
-  withdrawn-may = ends .message-apply wholeWithdrawn 1 (after .words) (after .count) .1
+  withdrawn-may : B .update (after .words) (after .count) (fresh after) (message wholeWithdrawn 1) (withdrawn .outcome)
+  withdrawn-may = may B ends d after (message wholeWithdrawn 1)
 
   abbrev onlyFirst : Routes
   onlyFirst = heldBy (first B ends d ∷ [])
@@ -317,12 +349,14 @@ module _ (B : Boundary) (ends : Ends B) (d : Demands B) where
       by true k = absurd (omega (arith, k))
       by false k = k
 
-  withdrawn-accepted : withdrawn .outcome .answer .number ≡ 0
+  withdrawn-accepted : withdrawn .outcome .reply .number ≡ 0
   withdrawn-accepted =
-      demand-1-decides .message-apply wholeWithdrawn 1 (after .words) (after .count) _ _ 0 0
-      (d .one .message-apply wholeWithdrawn 1 (after .words) (after .count) (withdrawn .outcome) whole-bytes withdrawn-may .exact)
-      (checked-through wholeWithdrawn _ whole-checked (inr (ported, inr (λ wrong. wrong (onlyFirst, good), inr (many, (refl, refl))))))
-      .0
+      taken B ends d after (message wholeWithdrawn 1) whole-bytes
+      (inr (
+        roomy after,
+        checked-through wholeWithdrawn _ whole-checked
+            (inr (ported, inr (λ wrong. wrong (onlyFirst, good), inr (in-step after onlyFirst good, inr (many, (refl, refl)))))),
+      ))
     where
       good : Good after onlyFirst
       good = first-good B ends d
@@ -352,23 +386,28 @@ module _ (B : Boundary) (ends : Ends B) (d : Demands B) where
 
   not-alone : AppliesAnnouncementsAlone B → ⊥
   not-alone alone =
-      let kept = alone wholeWithdrawn 1 (after .words) (after .count) (withdrawn .outcome) whole-announces withdrawn-may withdrawn-accepted in
+      let kept = alone (after .words) (after .count) (fresh after) wholeWithdrawn 1 (withdrawn .outcome) whole-announces withdrawn-may withdrawn-accepted in
       two-sets (after .words) (after .count) onlyFirst (heldBy (first B ends d ∷ withdrawn ∷ [])) (first-good B ends d)
       (subst (λ (n : ℕ). GoodFor 32 (capacity (after .words)) (rowAt (after .words)) n (heldBy (first B ends d ∷ withdrawn ∷ []))) (kept .1)
       (subst (λ (rows : List ℕ). GoodFor 32 (capacity rows) (rowAt rows) (left withdrawn .count) (heldBy (first B ends d ∷ withdrawn ∷ []))) (kept .0) withdrawn-good))
       (first-held B ends d) withdrawn-held
 
   -- A message announces the whole space and its left half to an empty table.
+  abbrev empty : Table
+  empty = emptyTable (replicate 10 0)
+
   abbrev two : Step
-  two = record { call = message twoAnnounced 1; outcome = ends .message-apply twoAnnounced 1 (replicate 10 0) 0 .0 }
+  two = made B ends d empty (message twoAnnounced 1)
 
-  two-may : May B (emptyTable (replicate 10 0)) (message twoAnnounced 1) (two .outcome)
-  two-may = ends .message-apply twoAnnounced 1 (replicate 10 0) 0 .1
+  two-may : B .update (replicate 10 0) 0 (fresh empty) (message twoAnnounced 1) (two .outcome)
+  two-may = may B ends d empty (message twoAnnounced 1)
 
-  two-accepted : two .outcome .answer .number ≡ 0
+  two-accepted : two .outcome .reply .number ≡ 0
   two-accepted =
-      demand-1-decides .message-apply twoAnnounced 1 (replicate 10 0) 0 _ _ _ _
-      (d .one .message-apply twoAnnounced 1 (replicate 10 0) 0 (two .outcome) two-bytes two-may .exact) (apply-refuses 32 refl twoAnnounced 1 (replicate 10 0) 0 two-bytes .exact) .0
+      demand-1-decides .update (replicate 10 0) 0 (fresh empty) (message twoAnnounced 1) _ _ _ _
+      (d .one .update (replicate 10 0) 0 (fresh empty) (message twoAnnounced 1) (two .outcome) two-bytes two-may .exact)
+      (update-refuses 32 refl (replicate 10 0) 0 (fresh empty) (message twoAnnounced 1) two-bytes .exact) .0
+      ∙ ap (λ (a : Answer). a .number) (fresh-is-plain (replicate 10 0) 0 (message twoAnnounced 1) (heldBy []) (d .three .held (replicate 10 0) [] tt) .0)
       ∙ two-applied
 
   two-good : Good (left two) (heldBy (two ∷ []))
@@ -382,7 +421,7 @@ module _ (B : Boundary) (ends : Ends B) (d : Demands B) where
   not-first stops =
       let s : Size (heldBy (two ∷ [])) (left two .count) =
       good-size 32 (capacity (left two .words)) (rowAt (left two .words)) (left two .count) (heldBy (two ∷ [])) two-good in
-      omega (arith, stops twoAnnounced 1 (replicate 10 0) (two .outcome) two-may two-accepted, s .size, no-more same same-refl same-eq ([] ∷ (false ∷ []) ∷ []) (s .list) differ (among-both s))
+      omega (arith, stops (replicate 10 0) (fresh empty) twoAnnounced 1 (two .outcome) two-may two-accepted, s .size, no-more same same-refl same-eq ([] ∷ (false ∷ []) ∷ []) (s .list) differ (among-both s))
     where
       differ : Differ same ([] ∷ (false ∷ []) ∷ [])
       differ = two-differ
@@ -394,12 +433,94 @@ module _ (B : Boundary) (ends : Ends B) (d : Demands B) where
       among-both : (s : Size (heldBy (two ∷ [])) (left two .count)) (q : Bits) → among same q ([] ∷ (false ∷ []) ∷ []) ≡ true → among same q (s .list) ≡ true
       among-both s q h = s .just q ∙ lt-ltb 0 (heldBy (two ∷ []) q) (held-either q (two-of q h))
 
+-- counts
+
+-- the whole space to port 1 alone, and no route at all
+abbrev onlyWhole : Routes
+onlyWhole q = cond (same q []) 1 0
+
+whole-scanned : (b : Bits) → scan onlyWhole b ≡ 1
+whole-scanned [] = refl
+whole-scanned (b ∷ a) = ap (λ (p : ℕ). orElse p 1) (scan-none (side b onlyWhole) a (λ q h. refl))
+
+none-scanned : (b : Bits) → scan noRoutes b ≡ 0
+none-scanned b = scan-none noRoutes b (λ q h. refl)
+
+-- where every address goes to port p
+all-in : (f : ℕ → ℕ) (p port : ℕ) → ((x : ℕ) → f x ≡ p) → addresses f port (2 ^ 32) ≡ cond (eqb p port) (2 ^ 32) 0
+all-in f p port one =
+    addresses-stretch f port p 0 (2 ^ 32) (λ x h l. one x) ∙ ap (λ (c : ℕ). c + cond (eqb p port) (2 ^ 32) 0) (number-zero (λ a. eqb (f a) port)) ∙ zero-add _
+
+module _ (B : Boundary) (ends : Ends B) (d : Demands B) where
+  -- Counts are made of a table of no route, in five zero words.
+  abbrev none : Table
+  none = emptyTable zeros
+
+  abbrev afresh : Outcome Reply
+  afresh = ends .counts-make zeros 0 (fresh none) .0
+
+  afresh-may : B .counts-make zeros 0 (fresh none) afresh
+  afresh-may = ends .counts-make zeros 0 (fresh none) .1
+
+  none-good : Good none noRoutes
+  none-good = d .three .held zeros [] tt
+
+  afresh-accepted : afresh .answer .number ≡ 0
+  afresh-accepted =
+      demand-1-decides .counts-make zeros 0 (fresh none) _ _ 0 0 (d .one .counts-make zeros 0 (fresh none) afresh afresh-may .exact)
+      (inr (roomy none, inr (λ wrong. wrong (noRoutes, none-good), (refl, refl))))
+      .0
+
+  start : CountsAre noRoutes (fresh none) (afresh .lent)
+  start = d .three .counted none noRoutes (fresh none) afresh [] none-good afresh-may afresh-accepted tt tt
+
+  start-none : getD (afresh .lent) 1 0 ≡ 0
+  start-none = start .each 1 (omega arith) ∙ all-in (λ a. scan noRoutes (bits 32 a)) 0 1 (λ a. none-scanned (bits 32 a))
+
+  -- They are lent to the announcement of the whole space to port 1.
+  abbrev begun : Step
+  begun = record {
+    call = single (announcing (whole 1));
+    lent = afresh .lent;
+    outcome = ends .update zeros 0 (afresh .lent) (single (announcing (whole 1))) .0;
+  }
+
+  begun-may : B .update zeros 0 (afresh .lent) (single (announcing (whole 1))) (begun .outcome)
+  begun-may = ends .update zeros 0 (afresh .lent) (single (announcing (whole 1))) .1
+
+  begun-accepted : begun .outcome .reply .number ≡ 0
+  begun-accepted =
+      demand-1-decides .update zeros 0 (afresh .lent) (single (announcing (whole 1))) _ _ 0 0
+      (d .one .update zeros 0 (afresh .lent) (single (announcing (whole 1))) (begun .outcome) (omega arith) begun-may .exact)
+      (announce-fine none noRoutes (afresh .lent) 1 none-good (λ h. omega (arith, start .size, fresh-long zeros 0))
+      (λ stale. let x = stale noRoutes none-good in x .2 (start .each (x .0) (x .1))) (omega arith) (omega arith) (inr (omega arith)))
+      .0
+
+  abbrev held : Routes
+  held q = portSince (begun ∷ []) q (noRoutes q)
+
+  held-at : (q : Bits) → held q ≡ onlyWhole q
+  unfolding bits
+  held-at q = rw begun-accepted
+
+  held-whole : held ≡ onlyWhole
+  held-whole = fun-ext held-at
+
+  after-begun : CountsAre held (fresh none) (begun .outcome .counts)
+  after-begun =
+      d .three .counted none noRoutes (fresh none) afresh (begun ∷ []) none-good afresh-may afresh-accepted (omega arith, begun-may, tt) (refl, tt)
+
+  begun-at : (port : ℕ) → port < ports → getD (begun .outcome .counts) port 0 ≡ cond (eqb 1 port) (2 ^ 32) 0
+  begun-at port low =
+      after-begun .each port low
+      ∙ all-in (λ a. scan held (bits 32 a)) 1 port (λ a. ap (λ (S : Routes). scan S (bits 32 a)) held-whole ∙ whole-scanned (bits 32 a))
+
 pub impostors-stopped : ImpostorsStopped
 impostors-stopped = record {
-  refuses-announcements = λ B ends d refuses. refuses zeros 0 (whole 1) (first B ends d .outcome) (first-may B ends d) (first-accepted B ends d);
+  refuses-announcements = λ B ends d refuses. refuses zeros 0 (fresh (emptyTable zeros)) (whole 1) (first B ends d .outcome) (first-may B ends d) (first-accepted B ends d);
   refuses-withdrawals = λ B ends d refuses.
       let t = left (first B ends d) in
-      refuses (t .words) (t .count) 0 0 (gone B ends d .outcome) (gone-may B ends d) (gone-accepted B ends d);
+      refuses (t .words) (t .count) (fresh t) 0 0 (gone B ends d .outcome) (gone-may B ends d) (gone-accepted B ends d);
   refuses-lookups = λ B ends d refuses.
       let b = built B ends d [] [] no-words no-routes-built in
       let x = found B ends d [] [] no-words no-routes-built in
@@ -428,8 +549,8 @@ impostors-stopped = record {
         fixed-is-segment-scan B ends d wholeSpace zeroStores whole-space-words (whole-space-segmented zeroStores zeros-roomy) fixed,
         whole-space-scanned,
       );
-  untouched-by-announcing = λ B ends d untouched. later-announced B ends d (λ rows n q o some. untouched rows n q o);
-  untouched-by-withdrawing = λ B ends d untouched. later-withdrawn B ends d (λ rows n value len o some. untouched rows n value len o);
+  untouched-by-announcing = λ B ends d untouched. later-announced B ends d (λ rows n counts q x some. untouched rows n counts q x);
+  untouched-by-withdrawing = λ B ends d untouched. later-withdrawn B ends d (λ rows n counts value len x some. untouched rows n counts value len x);
   first-announcement-only = later-announced;
   later-withdrawals-ignored = later-withdrawn;
   invented-rows = λ B ends d x.
@@ -441,9 +562,20 @@ impostors-stopped = record {
       x .invented
       (ap readCount (d .two .segments (x .list) (x .lent) (x .built) (x .address) (x .reply) (x .words) (x .fits) (x .builds) (x .done) (x .answers)));
   refuses-messages = λ B ends d refuses.
-      let x = no-call-refuses-all B (d .one) .message-apply in
-      let o = ends .message-apply (x .0) (x .1) (x .2) (x .3) in
-      refuses (x .0) (x .1) (x .2) (x .3) (o .0) (o .1) (x .4 (o .0) (o .1));
+      let x = no-call-refuses-all B (d .one) .message-applied in
+      let o = ends .update (x .0) (x .1) (x .2) (message (x .3) (x .4)) in
+      refuses (x .0) (x .1) (x .2) (x .3) (x .4) (o .0) (o .1) (x .5 (o .0) (o .1));
   announcements-alone = not-alone;
   first-prefix-only = not-first;
+  counts-nothing = λ B ends d zero-counts.
+      omega (arith, begun-at B ends d 1 (omega arith), zero-counts zeros 0 _ _ _ (begun-may B ends d) (begun-accepted B ends d) 1 (omega arith));
+  leaves-counts = λ B ends d leaves.
+      omega (
+        arith,
+        begun-at B ends d 1 (omega arith),
+        start-none B ends d,
+        ap (λ (counts : List ℕ). getD counts 1 0) (leaves zeros 0 _ _ _ (begun-may B ends d) (begun-accepted B ends d)),
+      );
+  counts-all-in-port-0 = λ B ends d all.
+      omega (arith, begun-at B ends d 0 (omega arith), all zeros 0 _ _ _ (begun-may B ends d) (begun-accepted B ends d));
 }

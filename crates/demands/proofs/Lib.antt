@@ -7,6 +7,7 @@ pub mod OfTables
 pub mod OfImages
 pub mod OfSegments
 pub mod OfMessages
+pub mod OfCounts
 pub mod Messages
 pub mod Entries
 pub mod EachCall

@@ -1,5 +1,5 @@
 -- Demand 1 of the calls on messages. Assumes nothing.
-use mathlib.Core.Path.{_≡_, refl, sym, _∙_}
+use mathlib.Core.Path.{_≡_, sym, _∙_}
 use mathlib.Core.Logic.{_⊎_, inl, inr}
 use mathlib.Core.Bool.{Bool, true, false, not, cond, _&&_, _||_, true≢false}
 use mathlib.Core.List.{List}
@@ -8,40 +8,33 @@ use native.Mathlib.Omega.{arith}
 use lib.Dec.{eqb, leb, ltb}
 use lib.ListN.{length, getD}
 use borrow.Author.Tests.{ne-eqb, eq-eqb, leb-true, leb-false, ltb-true, ltb-false}
-use Rattle.promise.specs.Over.{Outcome, outcome, over}
+use Rattle.promise.specs.Over.{outcome, over}
 use Rattle.lists.proofs.Below.{some-below, passing}
-use Rattle.lists.proofs.Tests.{both, either, neither}
+use Rattle.lists.proofs.Tests.{either, neither}
 use Rattle.trie.specs.Routes.{Routes}
-use Rattle.refusals.specs.Refusals.{longPrefix, wrongPort, noRoom, notInOrder, badMessage, refused, accepted, andThen}
+use Rattle.refusals.specs.Refusals.{longPrefix, noRoom, badMessage, refused, accepted, andThen}
 use Rattle.refusals.specs.declared.Answer.{Answer}
-use Rattle.routes.specs.Bounds.{lastPort}
 use Rattle.routes.specs.Routes.{routeAt, routeCount}
-use Rattle.routes.specs.Check.{isPort}
 use Rattle.octets.specs.Bytes.{Bytes}
 use Rattle.octets.specs.Octets.{prefixSize, lenAt, prefixAt}
 use Rattle.octets.specs.Taken.{takenAt}
 use Rattle.octets.specs.declared.Taken.{Taken}
 use Rattle.octets.specs.declared.Taken.the-variants.{Whole, Long, Cut}
-use Rattle.table_rules.specs.Check.{isGood}
 use Rattle.table_rules.specs.Holds.{GoodFor, GoodOrder}
-use Rattle.table_rows.specs.Words.{capacity, rowAt, fiveWords}
-use Rattle.table_update.specs.Calls.{leaves}
-use Rattle.table_update.specs.History.{Table, ran}
+use Rattle.table_rows.specs.Words.{capacity, rowAt}
 use Rattle.message_rules.specs.Message.{markerSize, lengthAt, typeAt, withdrawnSizeAt, withdrawnAt, leastSize, mostSize, updateType, ones, unmarked, fieldAt, attributesSizeAt, announcedAt, withdrawnPart, announcedPart, withdrawnIn, announcedIn}
 use Rattle.message_rules.specs.Check.{wrongLength, innerCheck, headCheck, faultOf, partFrom, partCheck, messageCheck}
 use Rattle.message_rules.specs.Written.{withdrawalOf, writeMessage}
 use Rattle.message_rules.proofs.Heads.{right-length}
-use Rattle.message_calls.specs.Named.{callsFor, finalCount, finalSet, Size}
-use Rattle.message_calls.specs.Apply.{doneAs, refusedAt, appliedTo, applyInto}
+use Rattle.message_calls.specs.Named.{finalCount, finalSet, Size}
 use Rattle.message_calls.proofs.Theorems.{final-sized}
 use Rattle.message_calls.proofs.Sized.{size-one}
 use Rattle.demands.specs.Lamp.{Verdict, shows, done, refuse}
-use Rattle.demands.specs.MessageChecks.{Unmarked, WrongLength, eachPrefix, messageChecks, TooMany, applyChecks, withdrawalChecks}
-use Rattle.demands.proofs.Tells.{Tells, tells-le, tells-eq, tells-and, tells-port}
-use Rattle.demands.proofs.Shown.{View, On, Refuses, writing, on-accepted, on-refused, on-test, on-test-then, on-whether}
+use Rattle.demands.specs.MessageChecks.{Unmarked, WrongLength, eachPrefix, messageChecks, TooMany, withdrawalChecks}
+use Rattle.demands.proofs.Tells.{Tells, tells-le, tells-eq, tells-and}
+use Rattle.demands.proofs.Shown.{View, On, Refuses, writing, on-accepted, on-refused, on-test, on-whether}
 use Rattle.demands.proofs.Listed.{on-list}
 use Rattle.demands.proofs.OfLists.{refusal-on}
-use Rattle.demands.proofs.OfTables.{on-order-then, kept-on}
 
 -- made : what a call makes of the answer of its checks; a refusal it hands on
 module _ (v : View) (made : Answer → v .Seen) (hands-on : (m p : ℕ) → 0 < m → On v (shows m p) (made (refused m p))) where
@@ -155,7 +148,7 @@ module _ (v : View) (made : Answer → v .Seen) (hands-on : (m p : ℕ) → 0 < 
       handed-on = then-on v made parts hands-on
 
 -- the size that is counted tells whether the final set is too large
-tells-many : (w : ℕ) → w % 8 ≡ 0 → (message : List ℕ) → Bytes message → (port : ℕ) → 0 < port → (rows : List ℕ) (n : ℕ) → GoodOrder w (capacity rows) (rowAt rows) n
+pub tells-many : (w : ℕ) → w % 8 ≡ 0 → (message : List ℕ) → Bytes message → (port : ℕ) → 0 < port → (rows : List ℕ) (n : ℕ) → GoodOrder w (capacity rows) (rowAt rows) n
     → Tells (leb (finalCount w (rowAt rows) n (withdrawnIn w message) (announcedIn w message)) (capacity rows)) (TooMany w message port rows n)
 tells-many w whole message bytes port some rows n order =
     let k = finalCount w (rowAt rows) n (withdrawnIn w message) (announcedIn w message) in
@@ -165,31 +158,6 @@ tells-many w whole message bytes port some rows n order =
       fine = λ e many. omega (arith, leb-true k (capacity rows) e, many (order .0) (order .1) k (sized (order .0) (order .1)));
       wrong = λ e S g m size. omega (arith, leb-false k (capacity rows) e, size-one (finalSet w port (withdrawnIn w message) (announcedIn w message) S) m k size (sized S g));
     }
-
-pub apply-refuses : (w : ℕ) → w % 8 ≡ 0 → (message : List ℕ) (port : ℕ) (rows : List ℕ) (n : ℕ) → Bytes message
-    → Refuses (applyChecks w message port rows n) n rows (applyInto fiveWords w message port rows n)
-unfolding applyInto appliedTo
-apply-refuses w whole message port rows n bytes =
-    let v = writing n rows in
-    let t : Table = record { words = rows; count = n } in
-    let done-with = doneAs (ran fiveWords w t (callsFor port (withdrawnIn w message) (announcedIn w message))) in
-    let few = leb (finalCount w (rowAt rows) n (withdrawnIn w message) (announcedIn w message)) (capacity rows) in
-    let fitting = cond few done-with (leaves noRoom n rows) in
-    let ordered = cond (isGood w (capacity rows) (rowAt rows) n) fitting (leaves notInOrder n rows) in
-    let next = cond (isPort port) ordered (leaves wrongPort n rows) in
-    on-message v (λ a. cond (eqb (a .number) 0) next (outcome (refusedAt (a .number) (a .place) n) rows)) (λ m p some. at-place next m p some) w message _
-    (on-test-then v (isPort port) _ (tells-port port) wrongPort 0 _ (λ b. cond b ordered (leaves wrongPort n rows))
-    (λ ported.
-    on-order-then v w rows n _ (λ b. cond b fitting (leaves notInOrder n rows))
-    (λ order.
-    on-test v few _ (tells-many w whole message bytes port (ltb-true 0 port (both (ltb 0 port) (leb port lastPort) ported .0)) rows n order) noRoom 0 done
-    (λ b. cond b done-with (leaves noRoom n rows)) (on-accepted n rows _ _) (kept-on rows n noRoom))
-    (kept-on rows n notInOrder))
-    (kept-on rows n wrongPort))
-  where
-    -- a refusal of the message, at its place, keeps the count and the rows
-    at-place : (next : Outcome Answer) (m p : ℕ) → 0 < m → On (writing n rows) (shows m p) (cond (eqb m 0) next (outcome (refusedAt m p n) rows))
-    at-place next m p some = rw (ne-eqb m 0 (λ e. omega arith)) (record { exact = (refl, refl); kept = λ _. (refl, refl) })
 
 pub withdrawal-refuses : (w : ℕ) (list lent : List ℕ) → Refuses (withdrawalChecks w list lent) 0 lent (writeMessage w list lent)
 unfolding writeMessage

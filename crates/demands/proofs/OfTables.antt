@@ -3,39 +3,31 @@ use mathlib.Core.Path.{_≡_, refl, sym, _∙_}
 use mathlib.Core.Logic.{inl, inr}
 use mathlib.Core.Bool.{Bool, true, false, cond, false≢true}
 use mathlib.Core.List.{List}
-use Prim.Native.Nat.{ℕ, zero, suc, _+_, _-_, _*_, _%_, _^_, _<_, _≤_}
+use Prim.Native.Nat.{ℕ, zero, suc, _+_, _-_, _*_, _<_, _≤_}
 use native.Mathlib.Omega.{arith}
 use lib.Dec.{eqb, leb, ltb}
 use lib.ListN.{length}
-use borrow.Author.Tests.{ne-eqb, eqb-true, eqb-false, leb-true, ltb-true, ltb-false}
-use Rattle.promise.specs.Over.{Outcome, outcome, over}
-use Rattle.bits.specs.Bits.{prefixBits, bitBefore}
-use Rattle.bits.specs.Prefix.{span, Valid, clear}
-use Rattle.trie.specs.Routes.{Routes}
-use Rattle.refusals.specs.Refusals.{longPrefix, spareBits, wrongPort, noRoom, notHeld, notInOrder, refused, accepted, found, lost}
+use borrow.Author.Tests.{eqb-true, eqb-false, ltb-true, ltb-false}
+use Rattle.promise.specs.Over.{outcome, over}
+use Rattle.bits.specs.Bits.{bitBefore}
+use Rattle.refusals.specs.Refusals.{noRoom, notInOrder, refused, accepted, found, lost}
 use Rattle.routes.specs.Routes.{routeAt, routeCount, wordsOf}
-use Rattle.routes.specs.Check.{isPort, prefixFault}
-use Rattle.refusals.specs.declared.Answer.{Answer}
-use Rattle.routes.specs.declared.Route.{Route}
 use Rattle.table_rules.specs.Rows.{Mem, child}
-use Rattle.table_rows.specs.Words.{capacity, rowAt, storeRow, fiveWords}
-use Rattle.table_rules.specs.Holds.{GoodFor, GoodOrder}
+use Rattle.table_rows.specs.Words.{capacity, rowAt, fiveWords}
+use Rattle.table_rules.specs.Holds.{GoodOrder}
 use Rattle.table_rules.specs.Check.{isGood}
 use Rattle.table_rules.specs.Save.{saved, saveInto}
-use Rattle.table_rules.specs.Announce.{isHeld}
-use Rattle.table_rules.specs.Withdraw.{withdrawn}
 use Rattle.table_rules.specs.Lookup.{wrongRow, endsAt, betterOf, walk, lookupIn}
 use Rattle.refusals.specs.declared.found.Found.{Found}
-use Rattle.table_rules.proofs.Table.{held-is}
 use Rattle.table_rules.proofs.Good.{check-is-good}
 use Rattle.table_lookup.specs.Good.{tableCheck}
-use Rattle.table_update.specs.Calls.{leaves, announcedWords, announceIn, announceInto, prefixOnly, withdrawIn, withdrawInto, builtFrom, buildInto}
+use Rattle.table_update.specs.Calls.{builtFrom, buildInto}
 use Rattle.runs_rules.specs.Listing.{listed, writeRuns}
 use Rattle.table_runs.specs.TableRuns.{tableRoutes, tableRuns}
 use Rattle.demands.specs.Lamp.{Verdict, shows, done, refuse}
-use Rattle.demands.specs.Checks.{prefixChecks, roomFor, orderChecks, NotHeld, announceChecks, withdrawChecks, buildChecks, saveChecks, rowChecks, lookupChecks, runsChecks, tableRunsChecks}
-use Rattle.demands.proofs.Tells.{Tells, tells-itself, tells-le, tells-lt, tells-port}
-use Rattle.demands.proofs.Shown.{View, On, Refuses, RefusesOnly, alone, looking, writing, on-accepted, on-refused, on-test, on-test-then, on-unless-then, on-whether}
+use Rattle.demands.specs.Checks.{roomFor, orderChecks, buildChecks, saveChecks, rowChecks, lookupChecks, runsChecks, tableRunsChecks}
+use Rattle.demands.proofs.Tells.{Tells, tells-le}
+use Rattle.demands.proofs.Shown.{View, On, Refuses, RefusesOnly, alone, looking, writing, on-accepted, on-refused, on-test, on-test-then, on-whether}
 use Rattle.demands.proofs.Listed.{on-list}
 use Rattle.demands.proofs.OfLists.{refusal-on, room-on, runs-on}
 
@@ -56,7 +48,7 @@ module _ (v : View) (w : ℕ) (rows : List ℕ) (n : ℕ) (rest : Verdict) where
       on-test-then v (isGood w (capacity rows) (rowAt rows) n) _ (tells-good w rows n) notInOrder 0 rest answer
       (λ e. next (check-is-good w (capacity rows) (rowAt rows) n .0 e)) shown
 
-  on-order : (answer : Bool → v .Seen) → On v rest (answer true) → On v (shows notInOrder 0) (answer false)
+  pub on-order : (answer : Bool → v .Seen) → On v rest (answer true) → On v (shows notInOrder 0) (answer false)
       → On v (orderChecks w rows n rest) (answer (isGood w (capacity rows) (rowAt rows) n))
   on-order answer next shown = on-order-then answer (λ _. next) shown
 
@@ -92,86 +84,6 @@ build-refuses w list rows =
     on-list (writing 0 rows) (λ c. cond (eqb (c .number) 0) next (outcome c rows)) (λ m p some. refusal-on rows next m p some) w list _
     (on-test (writing 0 rows) (leb n (capacity rows)) _ (tells-le n (capacity rows)) noRoom 0 done
     (λ b. cond b done-with (outcome (refused noRoom 0) rows)) (on-accepted 0 rows n (builtFrom fiveWords w (routeAt list) n 0 rows)) (on-refused rows noRoom 0))
-
--- a refused update leaves the count and the rows
-pub kept-on : (rows : List ℕ) (n m : ℕ) → On (writing n rows) (shows m 0) (leaves m n rows)
-kept-on rows n m = record { exact = (refl, refl); kept = λ _. (refl, refl) }
-
--- in a table in good order, the search for a prefix tells whether it is held
-tells-held : (w : ℕ) (rows : List ℕ) (n : ℕ) (q : Route) → Valid w (q .value) (q .len) → GoodOrder w (capacity rows) (rowAt rows) n
-    → Tells (isHeld w (rowAt rows) n q) (NotHeld w rows n (q .value) (q .len))
-tells-held w rows n q valid good =
-    let bits = prefixBits w (q .value) (q .len) in
-    let is : (S : Routes) → GoodFor w (capacity rows) (rowAt rows) n S → isHeld w (rowAt rows) n q ≡ ltb 0 (S bits) = λ S g. held-is w (rowAt rows) n S q (g .placed) valid in
-    record {
-      fine = λ e none. omega (arith, none (good .0) (good .1), ltb-true 0 (good .0 bits) (sym (is (good .0) (good .1)) ∙ e));
-      wrong = λ e S g. omega (arith, ltb-false 0 (S bits) (sym (is S g) ∙ e));
-    }
-
--- "4, 5" on the arguments, and then what follows for a valid prefix
-module _ (rows : List ℕ) (w n value len : ℕ) (fits : value < 2 ^ w) (rest : Verdict) (answer : ℕ → Outcome Answer) (after : ℕ) where
-  on-prefix : (Valid w value len → On (writing n rows) rest (answer after)) → ((m : ℕ) → 0 < m → On (writing n rows) (shows m 0) (answer m))
-      → On (writing n rows) (prefixChecks w 0 value len rest) (answer (prefixFault w value len after))
-  on-prefix next shown =
-      on-unless-then (writing n rows) (leb len w) _ (tells-le len w) longPrefix 0 _ answer _
-      (λ short.
-      on-unless-then (writing n rows) (clear w value len) _ (tells-itself _) spareBits 0 _ answer _
-      (λ zeros. next (record { fits = fits; short = leb-true len w short; zeros = eqb-true (value % span w len) 0 zeros }))
-      (shown spareBits (omega arith)))
-      (shown longPrefix (omega arith))
-
--- a fault of the arguments is a refusal that keeps everything
-fault-on : (rows : List ℕ) (n : ℕ) (next : Outcome Answer) (m : ℕ) → 0 < m → On (writing n rows) (shows m 0) (cond (eqb m 0) next (leaves m n rows))
-fault-on rows n next m some = rw (ne-eqb m 0 (λ e. omega arith)) (kept-on rows n m)
-
-pub announce-refuses : (w : ℕ) (rows : List ℕ) (n : ℕ) (q : Route) → q .value < 2 ^ w
-    → Refuses (announceChecks w rows n q) n rows (announceInto fiveWords w rows n q)
-unfolding announceInto announceIn
-announce-refuses w rows n q fits =
-    let v = writing n rows in
-    let words = announcedWords fiveWords w rows n q in
-    let full = cond (ltb n (capacity rows)) (outcome (accepted (n + 1)) words) (leaves noRoom n rows) in
-    let held = isHeld w (rowAt rows) n q in
-    let good = isGood w (capacity rows) (rowAt rows) n in
-    let next = cond good (cond held (outcome (accepted n) words) full) (leaves notInOrder n rows) in
-    let answer : ℕ → Outcome Answer = λ f. cond (eqb f 0) next (leaves f n rows) in
-    on-prefix rows w n (q .value) (q .len) fits _ answer _
-    (λ valid.
-    on-unless-then v (isPort (q .port)) _ (tells-port (q .port)) wrongPort 0 _ answer 0
-    (λ _.
-    on-order-then v w rows n _ (λ b. cond b (cond held (outcome (accepted n) words) full) (leaves notInOrder n rows))
-    (λ order.
-    on-either held (ltb n (capacity rows)) (NotHeld w rows n (q .value) (q .len)) (capacity rows ≤ n) (tells-held w rows n q valid order) (tells-lt n (capacity rows))
-    (on-accepted n rows n words) (on-accepted n rows (n + 1) words) (kept-on rows n noRoom))
-    (kept-on rows n notInOrder))
-    (kept-on rows n wrongPort))
-    (fault-on rows n next)
-  where
-    -- 9 where both tests fail
-    on-either : (a b : Bool) (A B : Type 0) → Tells a A → Tells b B → {x y z : Outcome Answer}
-        → On (writing n rows) done x → On (writing n rows) done y → On (writing n rows) (shows noRoom 0) z
-        → On (writing n rows) (refuse noRoom 0 (A × B) done) (cond a x (cond b y z))
-    on-either true b A B s t x y z = record { exact = inr (λ both. s .fine refl (both .0), x .exact); kept = x .kept }
-    on-either false true A B s t x y z = record { exact = inr (λ both. t .fine refl (both .1), y .exact); kept = y .kept }
-    on-either false false A B s t x y z = record { exact = inl ((s .wrong refl, t .wrong refl), z .exact); kept = z .kept }
-
-pub withdraw-refuses : (w : ℕ) (rows : List ℕ) (n value len : ℕ) → value < 2 ^ w
-    → Refuses (withdrawChecks w rows n value len) n rows (withdrawInto fiveWords w rows n value len)
-unfolding withdrawInto withdrawIn
-withdraw-refuses w rows n value len fits =
-    let v = writing n rows in
-    let q = prefixOnly value len in
-    let done-with = outcome (accepted (n - 1)) (withdrawn fiveWords w rows n q) in
-    let held = isHeld w (rowAt rows) n q in
-    let next = cond (isGood w (capacity rows) (rowAt rows) n) (cond held done-with (leaves notHeld n rows)) (leaves notInOrder n rows) in
-    on-prefix rows w n value len fits _ (λ f. cond (eqb f 0) next (leaves f n rows)) 0
-    (λ valid.
-    on-order-then v w rows n _ (λ b. cond b (cond held done-with (leaves notHeld n rows)) (leaves notInOrder n rows))
-    (λ order.
-    on-test v held _ (tells-held w rows n q valid order) notHeld 0 done (λ b. cond b done-with (leaves notHeld n rows))
-    (on-accepted n rows (n - 1) (withdrawn fiveWords w rows n q)) (kept-on rows n notHeld))
-    (kept-on rows n notInOrder))
-    (fault-on rows n next)
 
 found-on : (port reads : ℕ) → On looking done (found port reads)
 found-on port reads = record { exact = (refl, refl); kept = λ wrong. absurd (wrong refl) }

@@ -5,9 +5,9 @@ use Prim.Native.Nat.{ℕ}
 use lib.ListN.{getD}
 use Rattle.promise.specs.Over.{Outcome}
 use Rattle.refusals.specs.Reply.{Reply}
-use Rattle.routes.specs.declared.Route.{Route}
 use Rattle.segment_rules.specs.Build.{Stores}
-use Rattle.maftehon.specs.Reply.{Imaged, Segmented}
+use Rattle.message_calls.specs.History.{Event}
+use Rattle.maftehon.specs.Reply.{Imaged, Segmented, Booked}
 
 -- an outcome is the number returned, the words of `answer`, and what is left in the memory lent to be written
 pub record Boundary : Type 1 where
@@ -18,8 +18,6 @@ pub record Boundary : Type 1 where
   pub list-runs : (list runs : List ℕ) → Outcome Reply → Type 0
   pub table-check : (rows : List ℕ) (n : ℕ) → Reply → Type 0
   pub table-lookup : (rows : List ℕ) (n address : ℕ) → Reply → Type 0
-  pub table-announce : (rows : List ℕ) (n : ℕ) (q : Route) → Outcome Reply → Type 0
-  pub table-withdraw : (rows : List ℕ) (n value len : ℕ) → Outcome Reply → Type 0
   pub table-build : (list rows : List ℕ) → Outcome Reply → Type 0
   pub table-save : (rows : List ℕ) (n : ℕ) (list : List ℕ) → Outcome Reply → Type 0
   pub table-runs : (rows : List ℕ) (n : ℕ) (runs : List ℕ) → Outcome Reply → Type 0
@@ -28,8 +26,10 @@ pub record Boundary : Type 1 where
   pub segments-build : (list : List ℕ) (lent : Stores) → Segmented → Type 0
   pub segments-lookup : (stores : Stores) (address : ℕ) → Reply → Type 0
   pub segments-entries : (packed plain : List ℕ) (entry : ℕ) → Reply → Type 0
-  pub message-apply : (message : List ℕ) (port : ℕ) (rows : List ℕ) (n : ℕ) → Outcome Reply → Type 0
   pub message-write : (list message : List ℕ) → Outcome Reply → Type 0
+  pub counts-make : (rows : List ℕ) (n : ℕ) (counts : List ℕ) → Outcome Reply → Type 0
+  -- an announcement, a withdrawal or a message: three exports, each with the counts beside the rows
+  pub update : (rows : List ℕ) (n : ℕ) (counts : List ℕ) (e : Event) → Booked → Type 0
 
 -- the words of `answer`: the place; then the count, n, port or offset; then the rows, nodes or words read, or how many entries there are
 abbrev pub place : Reply → ℕ
@@ -50,8 +50,6 @@ pub record Ends (B : Boundary) : Type 0 where
   pub list-runs : (list runs : List ℕ) → (o : Outcome Reply) × B .list-runs list runs o
   pub table-check : (rows : List ℕ) (n : ℕ) → (x : Reply) × B .table-check rows n x
   pub table-lookup : (rows : List ℕ) (n a : ℕ) → (x : Reply) × B .table-lookup rows n a x
-  pub table-announce : (rows : List ℕ) (n : ℕ) (q : Route) → (o : Outcome Reply) × B .table-announce rows n q o
-  pub table-withdraw : (rows : List ℕ) (n value len : ℕ) → (o : Outcome Reply) × B .table-withdraw rows n value len o
   pub table-build : (list rows : List ℕ) → (o : Outcome Reply) × B .table-build list rows o
   pub table-save : (rows : List ℕ) (n : ℕ) (list : List ℕ) → (o : Outcome Reply) × B .table-save rows n list o
   pub table-runs : (rows : List ℕ) (n : ℕ) (runs : List ℕ) → (o : Outcome Reply) × B .table-runs rows n runs o
@@ -60,5 +58,6 @@ pub record Ends (B : Boundary) : Type 0 where
   pub segments-build : (list : List ℕ) (lent : Stores) → (x : Segmented) × B .segments-build list lent x
   pub segments-lookup : (s : Stores) (a : ℕ) → (x : Reply) × B .segments-lookup s a x
   pub segments-entries : (packed plain : List ℕ) (entry : ℕ) → (x : Reply) × B .segments-entries packed plain entry x
-  pub message-apply : (message : List ℕ) (port : ℕ) (rows : List ℕ) (n : ℕ) → (o : Outcome Reply) × B .message-apply message port rows n o
   pub message-write : (list message : List ℕ) → (o : Outcome Reply) × B .message-write list message o
+  pub counts-make : (rows : List ℕ) (n : ℕ) (counts : List ℕ) → (o : Outcome Reply) × B .counts-make rows n counts o
+  pub update : (rows : List ℕ) (n : ℕ) (counts : List ℕ) (e : Event) → (x : Booked) × B .update rows n counts e x

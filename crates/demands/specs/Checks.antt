@@ -9,7 +9,7 @@ use Rattle.bits.specs.Bits.{prefixBits, bitBefore}
 use Rattle.bits.specs.Prefix.{clear, precedes}
 use Rattle.bits.specs.Bitmap.{slotBit}
 use Rattle.trie.specs.Routes.{Routes, Route as BitRoute}
-use Rattle.refusals.specs.Refusals.{shortFile, wrongVersion, wrongSize, longPrefix, spareBits, wrongPort, notAbove, tooManyRoutes, noRoom, notHeld, notInOrder, wrongStride}
+use Rattle.refusals.specs.Refusals.{shortFile, wrongVersion, wrongSize, longPrefix, spareBits, wrongPort, notAbove, tooManyRoutes, noRoom, notInOrder, wrongStride}
 use Rattle.routes.specs.Bounds.{mostRoutes, lastPort}
 use Rattle.routes.specs.Routes.{routeAt, routeCount}
 use Rattle.routes.specs.declared.Route.{Route}
@@ -95,17 +95,6 @@ orderChecks w rows n rest = refuse notInOrder 0 (GoodOrder w (capacity rows) (ro
 abbrev pub NotHeld : ℕ → List ℕ → ℕ → ℕ → ℕ → Type 0
 NotHeld w rows n value len =
     (S : Routes) → GoodFor w (capacity rows) (rowAt rows) n S → S (prefixBits w value len) ≡ 0
-
--- "Announce ...: 4, 5, 6 on the arguments, 11, then 9": "a new prefix at full capacity"
-abbrev pub announceChecks : ℕ → List ℕ → ℕ → Route → Verdict
-announceChecks w rows n q =
-    routeChecks w 0 q
-    (orderChecks w rows n (refuse noRoom 0 (NotHeld w rows n (q .value) (q .len) × (capacity rows ≤ n)) done))
-
--- "... and withdraw: 4, 5, 11, then 10"
-abbrev pub withdrawChecks : ℕ → List ℕ → ℕ → ℕ → ℕ → Verdict
-withdrawChecks w rows n value len =
-    prefixChecks w 0 value len (orderChecks w rows n (refuse notHeld 0 (NotHeld w rows n value len) done))
 
 abbrev pub buildChecks : ℕ → List ℕ → List ℕ → Verdict
 buildChecks w list rows = listChecks w list (refuse noRoom 0 (capacity rows < routeCount list) done)

@@ -10,7 +10,7 @@ use Rattle.table_rows.specs.Words.{capacity, rowAt, fiveWords}
 use Rattle.table_rules.specs.Lookup.{lookupIn}
 use Rattle.table_rules.specs.Save.{saveInto}
 use Rattle.table_lookup.specs.Good.{tableCheck}
-use Rattle.table_update.specs.Calls.{announceInto, withdrawInto, buildInto}
+use Rattle.table_update.specs.Calls.{buildInto}
 use Rattle.image_rules.specs.Lookup.{lookupWords}
 use Rattle.image_build.specs.Build.{buildImage}
 use Rattle.runs_rules.specs.Listing.{listRuns}
@@ -18,8 +18,8 @@ use Rattle.table_runs.specs.TableRuns.{tableRuns}
 use Rattle.segment_rules.specs.Build.{buildSegments, lookupStores}
 use Rattle.segment_rules.specs.Parts.{partOf}
 use Rattle.message_rules.specs.Written.{writeMessage}
-use Rattle.message_calls.specs.Apply.{applyInto}
-use Rattle.maftehon.specs.Reply.{repliedImage, repliedSegments, located}
+use Rattle.count_rules.specs.Counted.{makeCounts, countedOn}
+use Rattle.maftehon.specs.Reply.{repliedImage, repliedSegments, located, repliedPlace, repliedBook}
 use Rattle.demands.specs.Boundary.{Boundary, Ends}
 use Rattle.demands.specs.Demands.{Demands}
 
@@ -32,8 +32,6 @@ defined = record {
   list-runs = λ list runs o. o ≡ replied (listRuns 32 list runs);
   table-check = λ rows n x. x ≡ placed (tableCheck 32 (capacity rows) (rowAt rows) n);
   table-lookup = λ rows n a x. x ≡ looked (lookupIn 32 (capacity rows) (rowAt rows) n a);
-  table-announce = λ rows n q o. o ≡ replied (announceInto fiveWords 32 rows n q);
-  table-withdraw = λ rows n value len o. o ≡ replied (withdrawInto fiveWords 32 rows n value len);
   table-build = λ list rows o. o ≡ replied (buildInto fiveWords 32 list rows);
   table-save = λ rows n list o. o ≡ replied (saveInto 32 (capacity rows) (rowAt rows) n list);
   table-runs = λ rows n runs o. o ≡ replied (tableRuns 32 (capacity rows) (rowAt rows) n runs);
@@ -42,8 +40,9 @@ defined = record {
   segments-build = λ list lent x. x ≡ repliedSegments (buildSegments list lent);
   segments-lookup = λ s a x. x ≡ looked (lookupStores s a);
   segments-entries = λ packed plain entry x. x ≡ located (partOf (length packed) (length plain) entry);
-  message-apply = λ message port rows n o. o ≡ replied (applyInto fiveWords 32 message port rows n);
   message-write = λ list message o. o ≡ replied (writeMessage 32 list message);
+  counts-make = λ rows n counts o. o ≡ repliedPlace (makeCounts fiveWords 32 rows n counts);
+  update = λ rows n counts e x. x ≡ repliedBook (countedOn fiveWords 32 rows n counts e);
 }
 
 -- the impostors are stopped by something that can be met

@@ -8,6 +8,7 @@ use lib.Dec.{leb}
 use lib.ListN.{length, getD, take, drop}
 use Rattle.promise.specs.Over.{Outcome, outcome, over}
 use Rattle.bits.specs.Bits.{bits}
+use Rattle.trie.specs.Routes.{Routes}
 use Rattle.trie.specs.Scan.{scan}
 use Rattle.trie.specs.Trie.{Trie, IsTrie, reads}
 use Rattle.refusals.specs.Refusals.{accepted, found}
@@ -30,13 +31,16 @@ use Rattle.runs_rules.specs.Maximal.{NamesMaximal}
 use Rattle.segment_rules.specs.Tables.{plainPointer}
 use Rattle.segment_rules.specs.Theorems.{readsOf, segmentPart}
 use Rattle.segment_rules.specs.Build.{Stores}
-use Rattle.maftehon.specs.Reply.{Imaged, Segmented}
+use Rattle.message_calls.specs.History.{Event, EventFits}
+use Rattle.count_rules.specs.Tally.{ports, addresses, total}
+use Rattle.maftehon.specs.Reply.{Imaged, Segmented, Booked}
 use Rattle.demands.specs.Lamp.{Verdict, done, Lamp, Decides}
-use Rattle.demands.specs.Checks.{listChecks, readChecks, writeChecks, orderChecks, announceChecks, withdrawChecks, buildChecks, saveChecks, lookupChecks, imageChecks, imageLookupChecks, listRunsChecks, tableRunsChecks}
+use Rattle.demands.specs.Checks.{listChecks, readChecks, writeChecks, orderChecks, buildChecks, saveChecks, lookupChecks, imageChecks, imageLookupChecks, listRunsChecks, tableRunsChecks}
 use Rattle.demands.specs.SegmentChecks.{segmentChecks, SixteenBits, segmentLookupChecks, segmentReads, entriesStand}
-use Rattle.demands.specs.MessageChecks.{applyChecks, withdrawalChecks}
+use Rattle.demands.specs.MessageChecks.{withdrawalChecks}
+use Rattle.demands.specs.CountChecks.{makeChecks, updateChecks}
 use Rattle.demands.specs.Boundary.{Boundary, place, result, readCount}
-use Rattle.demands.specs.History.{Step, Happened, emptyTable, atEnd, heldBy}
+use Rattle.demands.specs.History.{Step, Happened, LentOn, emptyTable, atEnd, countsAtEnd, portSince, heldBy}
 
 -- a call that is refused as its checks say stores the place and these results
 abbrev pub Refuses : Verdict → List ℕ → Reply → Type 0
@@ -46,6 +50,11 @@ Refuses checks results x = Lamp checks (x .number) (place x) (x .answer ≡ plac
 abbrev pub RefusesWhole : Verdict → List ℕ → List ℕ → Outcome Reply → Type 0
 RefusesWhole checks results lent o =
     Lamp checks (o .answer .number) (place (o .answer)) ((o .answer .answer ≡ place (o .answer) ∷ results) × (o .lent ≡ lent))
+
+-- and an update the rows and the counts, with n as it was
+abbrev pub RefusesBook : Verdict → ℕ → List ℕ → List ℕ → Booked → Type 0
+RefusesBook checks n rows counts x =
+    Lamp checks (x .reply .number) (place (x .reply)) ((x .reply .answer ≡ place (x .reply) ∷ n ∷ []) × (x .rows ≡ rows) × (x .counts ≡ counts))
 
 -- DEMAND 1. "Every call ends, on whatever route file, list, table or image it is lent, and checks all of it that it uses. A refusal
 -- carries a number and a place from the published list, is given exactly in the listed case, and writes nothing." For every call of
@@ -67,12 +76,6 @@ pub record Demand1 (B : Boundary) : Type 0 where
       (rows : List ℕ) (n a : ℕ) (x : Reply) → B .table-lookup rows n a x
       → (0 < n → n ≤ capacity rows → RowsRead 32 (rowAt rows) n a (readCount x) (x .number))
       × ((n ≡ 0) ⊎ (capacity rows < n) → readCount x ≡ 0)
-  pub table-announce :
-      (rows : List ℕ) (n : ℕ) (q : Route) (o : Outcome Reply) → q .value < 2 ^ 32 → B .table-announce rows n q o
-      → RefusesWhole (announceChecks 32 rows n q) (n ∷ []) rows o
-  pub table-withdraw :
-      (rows : List ℕ) (n value len : ℕ) (o : Outcome Reply) → value < 2 ^ 32 → B .table-withdraw rows n value len o
-      → RefusesWhole (withdrawChecks 32 rows n value len) (n ∷ []) rows o
   pub table-build :
       (list rows : List ℕ) (o : Outcome Reply) → B .table-build list rows o → RefusesWhole (buildChecks 32 list rows) (0 ∷ []) rows o
   pub table-save :
@@ -109,12 +112,15 @@ pub record Demand1 (B : Boundary) : Type 0 where
   pub segments-stand :
       (packed plain : List ℕ) (entry : ℕ) (x : Reply) → B .segments-entries packed plain entry x
       → entriesStand packed plain entry (result x) (readCount x)
-  pub message-apply :
-      (message : List ℕ) (port : ℕ) (rows : List ℕ) (n : ℕ) (o : Outcome Reply) → Bytes message → B .message-apply message port rows n o
-      → RefusesWhole (applyChecks 32 message port rows n) (n ∷ []) rows o
   pub message-write :
       (list message : List ℕ) (o : Outcome Reply) → B .message-write list message o
       → RefusesWhole (withdrawalChecks 32 list message) (0 ∷ []) message o
+  pub counts-make :
+      (rows : List ℕ) (n : ℕ) (counts : List ℕ) (o : Outcome Reply) → B .counts-make rows n counts o
+      → RefusesWhole (makeChecks 32 rows n counts) [] counts o
+  pub update :
+      (rows : List ℕ) (n : ℕ) (counts : List ℕ) (e : Event) (x : Booked) → EventFits 32 e → B .update rows n counts e x
+      → RefusesBook (updateChecks 32 rows n counts e) n rows counts x
 
 -- the checks of every call are such
 pub record EachCall (Such : Verdict → Type 0) : Type 0 where
@@ -124,8 +130,6 @@ pub record EachCall (Such : Verdict → Type 0) : Type 0 where
   pub list-runs : (list runs : List ℕ) → Such (listRunsChecks 32 list runs)
   pub table-check : (rows : List ℕ) (n : ℕ) → Such (orderChecks 32 rows n done)
   pub table-lookup : (rows : List ℕ) (n a : ℕ) → Such (lookupChecks 32 rows n a)
-  pub table-announce : (rows : List ℕ) (n : ℕ) (q : Route) → Such (announceChecks 32 rows n q)
-  pub table-withdraw : (rows : List ℕ) (n value len : ℕ) → Such (withdrawChecks 32 rows n value len)
   pub table-build : (list rows : List ℕ) → Such (buildChecks 32 list rows)
   pub table-save : (rows : List ℕ) (n : ℕ) (list : List ℕ) → Such (saveChecks 32 rows n list)
   pub table-runs : (rows : List ℕ) (n : ℕ) (runs : List ℕ) → Such (tableRunsChecks 32 rows n runs)
@@ -135,8 +139,9 @@ pub record EachCall (Such : Verdict → Type 0) : Type 0 where
   pub segments-lookup : (s : Stores) (a : ℕ) → Such (segmentLookupChecks s a)
   pub segments-reads : (s : Stores) (a : ℕ) → Such (segmentReads s a)
   pub segments-entries : Such done
-  pub message-apply : (message : List ℕ) (port : ℕ) (rows : List ℕ) (n : ℕ) → Such (applyChecks 32 message port rows n)
   pub message-write : (list message : List ℕ) → Such (withdrawalChecks 32 list message)
+  pub counts-make : (rows : List ℕ) (n : ℕ) (counts : List ℕ) → Such (makeChecks 32 rows n counts)
+  pub update : (rows : List ℕ) (n : ℕ) (counts : List ℕ) (e : Event) → Such (updateChecks 32 rows n counts e)
 
 -- "exactly in the listed case": the checks of a call leave no choice, so that no other number or place would do
 abbrev pub Demand1Decides : Type 0
@@ -192,11 +197,21 @@ pub record Demand2 (B : Boundary) : Type 0 where
       → B .file-write (take (result (got .answer) * 3) (got .lent)) lent o
       → o ≡ replied (outcome (accepted (length file)) (over file lent))
 
+-- the first 4,095 of these counts are the numbers of addresses that the plain scan of a set sends to the ports, they total 2^32, and what
+-- follows them is as it was lent
+pub record CountsAre (S : Routes) (lent counts : List ℕ) : Type 0 where
+  pub each : (port : ℕ) → port < ports → getD counts port 0 ≡ addresses (λ a. scan S (bits 32 a)) port (2 ^ 32)
+  pub totals : total (take ports counts) ≡ 2 ^ 32
+  pub size : length counts ≡ length lent
+  pub past : (i : ℕ) → ports ≤ i → getD counts i 0 ≡ getD lent i 0
+
 -- DEMAND 3. "From an empty table, after any sequence of announcements and withdrawals, some refused, the routes held are for each
 -- prefix those of its last accepted call if that was an announcement; the run listing names every maximal run of addresses that
 -- goes to one port, once, in order, and nothing else." Given room, port 0 included, and in address order. Stronger: the table is in
 -- good order throughout, a lookup on it gives the plain scan's port of the routes held and reads as many rows as the path in their
--- trie has, and a save writes them.
+-- trie has, and a save writes them. So it is whatever counts the updates are lent. "The count of a port is the number of addresses that
+-- the plain scan sends to it, so all counts total 4,294,967,296 after any history that starts from counts made afresh and lends them, as
+-- last left, to every update."
 pub record Demand3 (B : Boundary) : Type 0 where
   pub held :
       (rows : List ℕ) (steps : List Step) → Happened B (emptyTable rows) steps
@@ -223,6 +238,12 @@ pub record Demand3 (B : Boundary) : Type 0 where
       (list lent : List ℕ) (rs : List Run) (x : Reply) (o : Outcome Reply) → B .list-check list x → x .number ≡ 0
       → NamesMaximal (scanOf 32 (routeAt list) (routeCount list)) (2 ^ 32) rs → length rs * 3 ≤ length lent
       → B .list-runs list lent o → o ≡ replied (outcome (accepted (length rs)) (over (runWords rs) lent))
+  -- from any table in good order: the counts are those of the routes then held, and what lies past them is as it was
+  pub counted :
+      (t : Table) (S : Routes) (lent : List ℕ) (made : Outcome Reply) (steps : List Step)
+      → GoodFor 32 (capacity (t .words)) (rowAt (t .words)) (t .count) S → B .counts-make (t .words) (t .count) lent made
+      → made .answer .number ≡ 0 → Happened B t steps → LentOn (made .lent) steps
+      → CountsAre (λ q. portSince steps q (S q)) lent (countsAtEnd (made .lent) steps)
 
 -- of any port of an address there is one listing, and no other
 abbrev pub OneListing : Type 0

@@ -6,7 +6,11 @@ use Prim.Native.Nat.{ℕ, _+_, _-_, _*_, _^_}
 use lib.ListN.{replicate}
 use Rattle.promise.specs.Over.{Outcome}
 use Rattle.refusals.specs.Reply.{Reply}
-use Rattle.maftehon.specs.Reply.{Imaged}
+use Rattle.table_rows.specs.Words.{fiveWords}
+use Rattle.table_update.specs.History.{withdrawing}
+use Rattle.message_calls.specs.History.{single}
+use Rattle.count_rules.specs.Counted.{countsOf}
+use Rattle.maftehon.specs.Reply.{Imaged, Booked}
 use Rattle.demands.specs.Boundary.{Boundary}
 use Rattle.demands.specs.Exports.{exports}
 
@@ -18,11 +22,13 @@ pub data Question : Type 0 where
   image-lookup : (stride : ℕ) (nodes ports : List ℕ) (address : ℕ) → Question
   list-runs : (list runs : List ℕ) → Question
 
--- what may be seen of it: the number returned, the words of `answer`, and every word of the memory lent to be written
+-- what may be seen of it: the number returned, the words of `answer`, and every word of the memory lent to be written; a withdrawal is lent
+-- the counts of its table, and its rows are seen
 abbrev pub Answers : Boundary → Question → List ℕ → Type 0
 Answers B (table-lookup rows n address) words = (x : Reply) × B .table-lookup rows n address x × (x .number ∷ x .answer ≡ words)
 Answers B (table-withdraw rows n value len) words =
-    (o : Outcome Reply) × B .table-withdraw rows n value len o × ((o .answer .number ∷ o .answer .answer) ++ o .lent ≡ words)
+    (x : Booked) × B .update rows n (countsOf fiveWords 32 rows n) (single (withdrawing value len)) x
+    × ((x .reply .number ∷ x .reply .answer) ++ x .rows ≡ words)
 Answers B (image-build stride list nodes ports) words =
     (x : Imaged) × B .image-build stride list nodes ports x × ((x .reply .number ∷ x .reply .answer) ++ x .nodes ++ x .ports ≡ words)
 Answers B (image-lookup stride nodes ports address) words =

@@ -7,11 +7,12 @@ use Prim.Native.Nat.{ℕ}
 use denote.Ref.{now}
 use borrow.Fn.Kinds.{Out}
 use Rattle.promise.specs.Made.{Made}
-use Rattle.promise.specs.Over.{Outcome, outcome}
+use Rattle.promise.specs.Over.{outcome}
 use Rattle.refusals.specs.Reply.{Reply, reply}
-use Rattle.routes.specs.declared.Route.{Route}
 use Rattle.segment_rules.specs.Build.{stores}
-use Rattle.maftehon.specs.Reply.{Imaged, imaged, segmented}
+use Rattle.table_update.specs.History.{announcing, withdrawing}
+use Rattle.message_calls.specs.History.{Event, single, message}
+use Rattle.maftehon.specs.Reply.{imaged, segmented, Booked, booked}
 use Rattle.demands.specs.Boundary.{Boundary}
 use Rattle.maftehon.proofs.files.mft_file_read.Kinds as file-read-kinds
 use Rattle.maftehon.proofs.files.mft_file_read.Reads as file-read
@@ -27,10 +28,6 @@ use Rattle.maftehon.proofs.tables.mft_table_check.Kinds as table-check-kinds
 use Rattle.maftehon.proofs.tables.mft_table_check.Reads as table-check
 use Rattle.maftehon.proofs.tables.mft_table_lookup.Kinds as table-lookup-kinds
 use Rattle.maftehon.proofs.tables.mft_table_lookup.Reads as table-lookup
-use Rattle.maftehon.proofs.tables.mft_table_announce.Kinds as table-announce-kinds
-use Rattle.maftehon.proofs.tables.mft_table_announce.Reads as table-announce
-use Rattle.maftehon.proofs.tables.mft_table_withdraw.Kinds as table-withdraw-kinds
-use Rattle.maftehon.proofs.tables.mft_table_withdraw.Reads as table-withdraw
 use Rattle.maftehon.proofs.tables.mft_table_build.Kinds as table-build-kinds
 use Rattle.maftehon.proofs.tables.mft_table_build.Reads as table-build
 use Rattle.maftehon.proofs.tables.mft_table_save.Kinds as table-save-kinds
@@ -51,10 +48,16 @@ use Rattle.maftehon.proofs.segments.mft_segments_lookup.Kinds as segments-looku
 use Rattle.maftehon.proofs.segments.mft_segments_lookup.Reads as segments-lookup
 use Rattle.maftehon.proofs.segments.mft_segments_entries.Kinds as segments-entries-kinds
 use Rattle.maftehon.proofs.segments.mft_segments_entries.Reads as segments-entries
-use Rattle.maftehon.proofs.messages.mft_message_apply.Kinds as message-apply-kinds
-use Rattle.maftehon.proofs.messages.mft_message_apply.Reads as message-apply
 use Rattle.maftehon.proofs.messages.mft_message_write.Kinds as message-write-kinds
 use Rattle.maftehon.proofs.messages.mft_message_write.Reads as message-write
+use Rattle.maftehon.proofs.counts.mft_counts_make.Kinds as counts-make-kinds
+use Rattle.maftehon.proofs.counts.mft_counts_make.Reads as counts-make
+use Rattle.maftehon.proofs.counts.mft_counted_announce.Kinds as counted-announce-kinds
+use Rattle.maftehon.proofs.counts.mft_counted_announce.Reads as counted-announce
+use Rattle.maftehon.proofs.counts.mft_counted_withdraw.Kinds as counted-withdraw-kinds
+use Rattle.maftehon.proofs.counts.mft_counted_withdraw.Reads as counted-withdraw
+use Rattle.maftehon.proofs.counts.mft_counted_message.Kinds as counted-message-kinds
+use Rattle.maftehon.proofs.counts.mft_counted_message.Reads as counted-message
 
 -- a lookup at a constant stride, by the contract of an export that has no other argument
 abbrev pub LookedAt : Out 3 image-lookup-1-kinds.ps image-lookup-1-kinds.r → (nodes ports : List ℕ) → ℕ → Reply → Type 0
@@ -69,6 +72,24 @@ LookedBy stride nodes ports address x =
     (c : Made 3 image-lookup-kinds.ps image-lookup-kinds.r image-lookup.Post)
     × (c .args .0 ≡ stride) × (now (c .args .1 .0) ≡ nodes) × (now (c .args .1 .1 .0) ≡ ports) × (c .args .1 .1 .1 .0 ≡ address)
     × (reply (c .result) (now (c .exit .1 .1 .1 .1 .0)) ≡ x)
+
+-- an update, by the export for its kind
+abbrev pub Updated : (rows : List ℕ) (n : ℕ) (counts : List ℕ) (e : Event) → Booked → Type 0
+Updated rows n counts (single (announcing q)) x =
+    (c : Made 3 counted-announce-kinds.ps counted-announce-kinds.r counted-announce.Post)
+    × (now (c .args .0) ≡ rows) × (c .args .1 .0 ≡ n) × (c .args .1 .1 .0 ≡ q .value) × (c .args .1 .1 .1 .0 ≡ q .len) × (c .args .1 .1 .1 .1 .0 ≡ q .port)
+    × (now (c .args .1 .1 .1 .1 .1 .0) ≡ counts)
+    × (booked (reply (c .result) (now (c .exit .1 .1 .1 .1 .1 .1 .0))) (now (c .exit .0)) (now (c .exit .1 .1 .1 .1 .1 .0)) ≡ x)
+Updated rows n counts (single (withdrawing value len)) x =
+    (c : Made 3 counted-withdraw-kinds.ps counted-withdraw-kinds.r counted-withdraw.Post)
+    × (now (c .args .0) ≡ rows) × (c .args .1 .0 ≡ n) × (c .args .1 .1 .0 ≡ value) × (c .args .1 .1 .1 .0 ≡ len)
+    × (now (c .args .1 .1 .1 .1 .0) ≡ counts)
+    × (booked (reply (c .result) (now (c .exit .1 .1 .1 .1 .1 .0))) (now (c .exit .0)) (now (c .exit .1 .1 .1 .1 .0)) ≡ x)
+Updated rows n counts (message bytes port) x =
+    (c : Made 4 counted-message-kinds.ps counted-message-kinds.r counted-message.Post)
+    × (now (c .args .0) ≡ bytes) × (c .args .1 .0 ≡ port) × (now (c .args .1 .1 .0) ≡ rows) × (c .args .1 .1 .1 .0 ≡ n)
+    × (now (c .args .1 .1 .1 .1 .0) ≡ counts)
+    × (booked (reply (c .result) (now (c .exit .1 .1 .1 .1 .1 .0))) (now (c .exit .1 .1 .0)) (now (c .exit .1 .1 .1 .1 .0)) ≡ x)
 
 -- each call by its export: made with these arguments, it returned and left this; the lookup in an image by any of four
 abbrev pub exports : Boundary
@@ -101,14 +122,6 @@ exports = record {
       (c : Made 2 table-lookup-kinds.ps table-lookup-kinds.r table-lookup.Post)
       × (now (c .args .0) ≡ rows) × (c .args .1 .0 ≡ n) × (c .args .1 .1 .0 ≡ address)
       × (reply (c .result) (now (c .exit .1 .1 .1 .0)) ≡ x);
-  table-announce = λ rows n q o.
-      (c : Made 2 table-announce-kinds.ps table-announce-kinds.r table-announce.Post)
-      × (now (c .args .0) ≡ rows) × (c .args .1 .0 ≡ n) × (c .args .1 .1 .0 ≡ q .value) × (c .args .1 .1 .1 .0 ≡ q .len) × (c .args .1 .1 .1 .1 .0 ≡ q .port)
-      × (outcome (reply (c .result) (now (c .exit .1 .1 .1 .1 .1 .0))) (now (c .exit .0)) ≡ o);
-  table-withdraw = λ rows n value len o.
-      (c : Made 2 table-withdraw-kinds.ps table-withdraw-kinds.r table-withdraw.Post)
-      × (now (c .args .0) ≡ rows) × (c .args .1 .0 ≡ n) × (c .args .1 .1 .0 ≡ value) × (c .args .1 .1 .1 .0 ≡ len)
-      × (outcome (reply (c .result) (now (c .exit .1 .1 .1 .1 .0))) (now (c .exit .0)) ≡ o);
   table-build = λ list rows o.
       (c : Made 3 table-build-kinds.ps table-build-kinds.r table-build.Post)
       × (now (c .args .0) ≡ list) × (now (c .args .1 .0) ≡ rows)
@@ -144,12 +157,13 @@ exports = record {
       (c : Made 3 segments-entries-kinds.ps segments-entries-kinds.r segments-entries.Post)
       × (now (c .args .0) ≡ packed) × (now (c .args .1 .0) ≡ plain) × (c .args .1 .1 .0 ≡ entry)
       × (reply (c .result) (now (c .exit .1 .1 .1 .0)) ≡ x);
-  message-apply = λ message port rows n o.
-      (c : Made 3 message-apply-kinds.ps message-apply-kinds.r message-apply.Post)
-      × (now (c .args .0) ≡ message) × (c .args .1 .0 ≡ port) × (now (c .args .1 .1 .0) ≡ rows) × (c .args .1 .1 .1 .0 ≡ n)
-      × (outcome (reply (c .result) (now (c .exit .1 .1 .1 .1 .0))) (now (c .exit .1 .1 .0)) ≡ o);
   message-write = λ list message o.
       (c : Made 3 message-write-kinds.ps message-write-kinds.r message-write.Post)
       × (now (c .args .0) ≡ list) × (now (c .args .1 .0) ≡ message)
       × (outcome (reply (c .result) (now (c .exit .1 .1 .0))) (now (c .exit .1 .0)) ≡ o);
+  counts-make = λ rows n counts o.
+      (c : Made 3 counts-make-kinds.ps counts-make-kinds.r counts-make.Post)
+      × (now (c .args .0) ≡ rows) × (c .args .1 .0 ≡ n) × (now (c .args .1 .1 .0) ≡ counts)
+      × (outcome (reply (c .result) (now (c .exit .1 .1 .1 .0))) (now (c .exit .1 .1 .0)) ≡ o);
+  update = Updated;
 }

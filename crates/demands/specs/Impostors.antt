@@ -3,19 +3,22 @@
 use mathlib.Core.Path.{_≡_}
 use mathlib.Core.List.{List, []}
 use Prim.Native.Nat.{ℕ, _+_, _/_, _^_, _≤_, _<_}
+use lib.ListN.{getD}
 use Rattle.promise.specs.Over.{Outcome}
 use Rattle.bits.specs.Bits.{bits}
 use Rattle.trie.specs.Trie.{Trie, IsTrie, reads}
 use Rattle.refusals.specs.Reply.{Reply}
 use Rattle.routes.specs.Routes.{routeAt, routeCount, Words}
 use Rattle.routes.specs.declared.Route.{Route}
-use Rattle.table_update.specs.History.{Table}
+use Rattle.table_update.specs.History.{announcing, withdrawing, Table}
 use Rattle.image_rules.specs.Image.{passed}
 use Rattle.image_build.specs.Build.{listRoutes}
 use Rattle.segment_rules.specs.Theorems.{readsOf}
 use Rattle.segment_rules.specs.Build.{Stores}
 use Rattle.message_rules.specs.Message.{announcedIn}
-use Rattle.maftehon.specs.Reply.{Imaged, Segmented}
+use Rattle.message_calls.specs.History.{Event, single, message}
+use Rattle.count_rules.specs.Tally.{ports}
+use Rattle.maftehon.specs.Reply.{Imaged, Segmented, Booked}
 use Rattle.demands.specs.Boundary.{Boundary, result, readCount, Ends}
 use Rattle.demands.specs.History.{Step, Happened, emptyTable, atEnd, heldBy}
 use Rattle.demands.specs.Demands.{Demand1, Demands}
@@ -26,11 +29,12 @@ Stopped Impostor = (B : Boundary) → Ends B → Demands B → Impostor B → �
 -- "One refuses everything": here, every announcement, or every withdrawal, or every lookup
 abbrev pub RefusesAnnouncements : Boundary → Type 0
 RefusesAnnouncements B =
-    (rows : List ℕ) (n : ℕ) (q : Route) (o : Outcome Reply) → B .table-announce rows n q o → o .answer .number ≡ 0 → ⊥
+    (rows : List ℕ) (n : ℕ) (counts : List ℕ) (q : Route) (x : Booked) → B .update rows n counts (single (announcing q)) x → x .reply .number ≡ 0 → ⊥
 
 abbrev pub RefusesWithdrawals : Boundary → Type 0
 RefusesWithdrawals B =
-    (rows : List ℕ) (n value len : ℕ) (o : Outcome Reply) → B .table-withdraw rows n value len o → o .answer .number ≡ 0 → ⊥
+    (rows : List ℕ) (n : ℕ) (counts : List ℕ) (value len : ℕ) (x : Booked) → B .update rows n counts (single (withdrawing value len)) x
+    → x .reply .number ≡ 0 → ⊥
 
 abbrev pub RefusesLookups : Boundary → Type 0
 RefusesLookups B = (rows : List ℕ) (n a : ℕ) (x : Reply) → B .table-lookup rows n a x → x .number ≡ 0 → ⊥
@@ -50,24 +54,25 @@ FixedPortOfSegments B = (port : ℕ) × ((s : Stores) (a : ℕ) (x : Reply) → 
 -- "one takes the first announcement and ignores the later calls": what it accepts leaves the rows as they were, whatever it says of n
 abbrev pub IgnoresAnnouncements : Boundary → Type 0
 IgnoresAnnouncements B =
-    (rows : List ℕ) (n : ℕ) (q : Route) (o : Outcome Reply) → 0 < n → B .table-announce rows n q o → o .answer .number ≡ 0
-    → o .lent ≡ rows
+    (rows : List ℕ) (n : ℕ) (counts : List ℕ) (q : Route) (x : Booked) → 0 < n → B .update rows n counts (single (announcing q)) x
+    → x .reply .number ≡ 0 → x .rows ≡ rows
 
 -- a withdrawal it accepts leaves the rows and n as they were: with another n, rows past it are no part of the table
 abbrev pub IgnoresWithdrawals : Boundary → Type 0
 IgnoresWithdrawals B =
-    (rows : List ℕ) (n value len : ℕ) (o : Outcome Reply) → 0 < n → B .table-withdraw rows n value len o → o .answer .number ≡ 0
-    → (o .lent ≡ rows) × (result (o .answer) ≡ n)
+    (rows : List ℕ) (n : ℕ) (counts : List ℕ) (value len : ℕ) (x : Booked) → 0 < n → B .update rows n counts (single (withdrawing value len)) x
+    → x .reply .number ≡ 0 → (x .rows ≡ rows) × (result (x .reply) ≡ n)
 
 -- "One leaves the table untouched", the first time too
 abbrev pub UntouchedByAnnouncing : Boundary → Type 0
 UntouchedByAnnouncing B =
-    (rows : List ℕ) (n : ℕ) (q : Route) (o : Outcome Reply) → B .table-announce rows n q o → o .answer .number ≡ 0 → o .lent ≡ rows
+    (rows : List ℕ) (n : ℕ) (counts : List ℕ) (q : Route) (x : Booked) → B .update rows n counts (single (announcing q)) x → x .reply .number ≡ 0
+    → x .rows ≡ rows
 
 abbrev pub UntouchedByWithdrawing : Boundary → Type 0
 UntouchedByWithdrawing B =
-    (rows : List ℕ) (n value len : ℕ) (o : Outcome Reply) → B .table-withdraw rows n value len o → o .answer .number ≡ 0
-    → (o .lent ≡ rows) × (result (o .answer) ≡ n)
+    (rows : List ℕ) (n : ℕ) (counts : List ℕ) (value len : ℕ) (x : Booked) → B .update rows n counts (single (withdrawing value len)) x
+    → x .reply .number ≡ 0 → (x .rows ≡ rows) × (result (x .reply) ≡ n)
 
 -- "One invents its rows read": somewhere it says a number that is not the path's in the trie of the routes held
 pub record InventsRows (B : Boundary) : Type 0 where
@@ -101,20 +106,34 @@ pub record InventsNodes (B : Boundary) : Type 0 where
 -- of messages: one refuses them all, one applies the announcements alone, and one stops at the first prefix of a part
 abbrev pub RefusesMessages : Boundary → Type 0
 RefusesMessages B =
-    (message : List ℕ) (port : ℕ) (rows : List ℕ) (n : ℕ) (o : Outcome Reply) → B .message-apply message port rows n o → o .answer .number ≡ 0
-    → ⊥
+    (rows : List ℕ) (n : ℕ) (counts bytes : List ℕ) (port : ℕ) (x : Booked) → B .update rows n counts (message bytes port) x → x .reply .number ≡ 0 → ⊥
 
 -- one that announces nothing leaves the rows and n as they were
 abbrev pub AppliesAnnouncementsAlone : Boundary → Type 0
 AppliesAnnouncementsAlone B =
-    (message : List ℕ) (port : ℕ) (rows : List ℕ) (n : ℕ) (o : Outcome Reply) → announcedIn 32 message ≡ []
-    → B .message-apply message port rows n o → o .answer .number ≡ 0 → (o .lent ≡ rows) × (result (o .answer) ≡ n)
+    (rows : List ℕ) (n : ℕ) (counts bytes : List ℕ) (port : ℕ) (x : Booked) → announcedIn 32 bytes ≡ []
+    → B .update rows n counts (message bytes port) x → x .reply .number ≡ 0 → (x .rows ≡ rows) × (result (x .reply) ≡ n)
 
 -- in an empty table none leaves more than one route
 abbrev pub StopsAtTheFirst : Boundary → Type 0
 StopsAtTheFirst B =
-    (message : List ℕ) (port : ℕ) (rows : List ℕ) (o : Outcome Reply) → B .message-apply message port rows 0 o → o .answer .number ≡ 0
-    → result (o .answer) ≤ 1
+    (rows counts bytes : List ℕ) (port : ℕ) (x : Booked) → B .update rows 0 counts (message bytes port) x → x .reply .number ≡ 0
+    → result (x .reply) ≤ 1
+
+-- of counts: one leaves them all 0, one leaves those of before the update, and one has every address in port 0
+abbrev pub CountsNothing : Boundary → Type 0
+CountsNothing B =
+    (rows : List ℕ) (n : ℕ) (counts : List ℕ) (e : Event) (x : Booked) → B .update rows n counts e x → x .reply .number ≡ 0
+    → (port : ℕ) → port < ports → getD (x .counts) port 0 ≡ 0
+
+abbrev pub LeavesCounts : Boundary → Type 0
+LeavesCounts B =
+    (rows : List ℕ) (n : ℕ) (counts : List ℕ) (e : Event) (x : Booked) → B .update rows n counts e x → x .reply .number ≡ 0 → x .counts ≡ counts
+
+abbrev pub CountsAllInPort0 : Boundary → Type 0
+CountsAllInPort0 B =
+    (rows : List ℕ) (n : ℕ) (counts : List ℕ) (e : Event) (x : Booked) → B .update rows n counts e x → x .reply .number ≡ 0
+    → getD (x .counts) 0 0 ≡ 2 ^ 32
 
 -- or the words read in segment tables: a number that is not one for the first table, two for a packed segment or one for a plain one, and
 -- one for a last block
@@ -148,6 +167,9 @@ pub record ImpostorsStopped : Type 1 where
   pub refuses-messages : Stopped RefusesMessages
   pub announcements-alone : Stopped AppliesAnnouncementsAlone
   pub first-prefix-only : Stopped StopsAtTheFirst
+  pub counts-nothing : Stopped CountsNothing
+  pub leaves-counts : Stopped LeavesCounts
+  pub counts-all-in-port-0 : Stopped CountsAllInPort0
 
 -- "the table's exactly when stops it": by demand 1, each of the other calls is handed something that it may not refuse
 pub record EachAccepts (B : Boundary) : Type 0 where
@@ -171,11 +193,13 @@ pub record EachAccepts (B : Boundary) : Type 0 where
   pub segments-lookup : (s : Stores) × (a : ℕ) × ((x : Reply) → B .segments-lookup s a x → x .number ≡ 0)
   pub segments-entries :
       (packed : List ℕ) × (plain : List ℕ) × (entry : ℕ) × ((x : Reply) → B .segments-entries packed plain entry x → x .number ≡ 0)
-  pub message-apply :
-      (message : List ℕ) × (port : ℕ) × (rows : List ℕ) × (n : ℕ)
-      × ((o : Outcome Reply) → B .message-apply message port rows n o → o .answer .number ≡ 0)
   pub message-write :
       (list : List ℕ) × (message : List ℕ) × ((o : Outcome Reply) → B .message-write list message o → o .answer .number ≡ 0)
+  pub counts-make :
+      (rows : List ℕ) × (n : ℕ) × (counts : List ℕ) × ((o : Outcome Reply) → B .counts-make rows n counts o → o .answer .number ≡ 0)
+  pub message-applied :
+      (rows : List ℕ) × (n : ℕ) × (counts : List ℕ) × (bytes : List ℕ) × (port : ℕ)
+      × ((x : Booked) → B .update rows n counts (message bytes port) x → x .reply .number ≡ 0)
 
 abbrev pub NoCallRefusesAll : Type 1
 NoCallRefusesAll = (B : Boundary) → Demand1 B → EachAccepts B

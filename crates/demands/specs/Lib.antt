@@ -3,6 +3,7 @@ pub mod Lamp
 pub mod Checks
 pub mod SegmentChecks
 pub mod MessageChecks
+pub mod CountChecks
 pub mod Boundary
 pub mod Exports
 pub mod History

@@ -5,7 +5,7 @@ use mathlib.Core.List.{List}
 use Prim.Native.Nat.{ℕ, zero, suc, _+_, _<_}
 use lib.ListN.{length, getD}
 use Rattle.trie.specs.Routes.{Routes}
-use Rattle.refusals.specs.Refusals.{longPrefix, wrongPort, noRoom, badMessage}
+use Rattle.refusals.specs.Refusals.{longPrefix, noRoom, badMessage}
 use Rattle.routes.specs.Routes.{routeAt, routeCount}
 use Rattle.octets.specs.Octets.{prefixSize, lenAt}
 use Rattle.table_rows.specs.Words.{capacity, rowAt}
@@ -14,7 +14,7 @@ use Rattle.message_rules.specs.Message.{markerSize, lengthAt, typeAt, withdrawn
 use Rattle.message_rules.specs.Written.{withdrawalOf}
 use Rattle.message_calls.specs.Named.{finalSet, Size}
 use Rattle.demands.specs.Lamp.{Verdict, done, whether, refuse}
-use Rattle.demands.specs.Checks.{NoPort, listChecks, orderChecks}
+use Rattle.demands.specs.Checks.{listChecks}
 
 -- "a marker not all ones"
 abbrev pub Unmarked : List ℕ → Type 0
@@ -51,12 +51,6 @@ abbrev pub TooMany : ℕ → List ℕ → ℕ → List ℕ → ℕ → Type 0
 TooMany w message port rows n =
     (S : Routes) → GoodFor w (capacity rows) (rowAt rows) n S → (m : ℕ) → Size (finalSet w port (withdrawnIn w message) (announcedIn w message) S) m
     → capacity rows < m
-
--- "then, at 0, 6, 11, and 9"
-abbrev pub applyChecks : ℕ → List ℕ → ℕ → List ℕ → ℕ → Verdict
-applyChecks w message port rows n =
-    messageChecks w message
-    (refuse wrongPort 0 (NoPort port) (orderChecks w rows n (refuse noRoom 0 (TooMany w message port rows n) done)))
 
 -- "(the writer: the list's own, then 9)": "the written message 4,096 bytes or the lent room"
 abbrev pub withdrawalChecks : ℕ → List ℕ → List ℕ → Verdict

@@ -1,13 +1,12 @@
 -- States that 13 is no refusal of any call: RULES, "Refusals". Proofs are in proofs/. Assumes nothing.
 use mathlib.Core.Path.{_≡_}
 use mathlib.Core.List.{List}
-use Prim.Native.Nat.{ℕ, _^_, _<_}
+use Prim.Native.Nat.{ℕ}
 use Rattle.promise.specs.Over.{Outcome}
 use Rattle.refusals.specs.Reply.{Reply}
-use Rattle.routes.specs.declared.Route.{Route}
-use Rattle.octets.specs.Bytes.{Bytes}
 use Rattle.segment_rules.specs.Build.{Stores}
-use Rattle.maftehon.specs.Reply.{Imaged, Segmented}
+use Rattle.message_calls.specs.History.{Event, EventFits}
+use Rattle.maftehon.specs.Reply.{Imaged, Segmented, Booked}
 use Rattle.demands.specs.Boundary.{Boundary}
 use Rattle.demands.specs.SegmentChecks.{SixteenBits}
 use Rattle.demands.specs.Demands.{Demand1}
@@ -25,12 +24,6 @@ pub record NeverAnswers (B : Boundary) (number : ℕ) : Type 0 where
   pub list-runs : (list runs : List ℕ) (o : Outcome Reply) → B .list-runs list runs o → o .answer .number ≡ number → ⊥
   pub table-check : (rows : List ℕ) (n : ℕ) (x : Reply) → B .table-check rows n x → x .number ≡ number → ⊥
   pub table-lookup : (rows : List ℕ) (n a : ℕ) (x : Reply) → B .table-lookup rows n a x → x .number ≡ number → ⊥
-  pub table-announce :
-      (rows : List ℕ) (n : ℕ) (q : Route) (o : Outcome Reply) → q .value < 2 ^ 32 → B .table-announce rows n q o
-      → o .answer .number ≡ number → ⊥
-  pub table-withdraw :
-      (rows : List ℕ) (n value len : ℕ) (o : Outcome Reply) → value < 2 ^ 32 → B .table-withdraw rows n value len o
-      → o .answer .number ≡ number → ⊥
   pub table-build : (list rows : List ℕ) (o : Outcome Reply) → B .table-build list rows o → o .answer .number ≡ number → ⊥
   pub table-save :
       (rows : List ℕ) (n : ℕ) (list : List ℕ) (o : Outcome Reply) → B .table-save rows n list o → o .answer .number ≡ number → ⊥
@@ -45,10 +38,12 @@ pub record NeverAnswers (B : Boundary) (number : ℕ) : Type 0 where
       (s : Stores) (a : ℕ) (x : Reply) → SixteenBits s → B .segments-lookup s a x → x .number ≡ number → ⊥
   pub segments-entries :
       (packed plain : List ℕ) (entry : ℕ) (x : Reply) → B .segments-entries packed plain entry x → x .number ≡ number → ⊥
-  pub message-apply :
-      (message : List ℕ) (port : ℕ) (rows : List ℕ) (n : ℕ) (o : Outcome Reply) → Bytes message → B .message-apply message port rows n o
-      → o .answer .number ≡ number → ⊥
   pub message-write : (list message : List ℕ) (o : Outcome Reply) → B .message-write list message o → o .answer .number ≡ number → ⊥
+  pub counts-make :
+      (rows : List ℕ) (n : ℕ) (counts : List ℕ) (o : Outcome Reply) → B .counts-make rows n counts o → o .answer .number ≡ number → ⊥
+  pub update :
+      (rows : List ℕ) (n : ℕ) (counts : List ℕ) (e : Event) (x : Booked) → EventFits 32 e → B .update rows n counts e x
+      → x .reply .number ≡ number → ⊥
 
 -- 13 is given by none of the calls, the two listings among them
 abbrev pub NoThirteen : Type 1

@@ -8,8 +8,9 @@ use Rattle.image_build.specs.Build.{Left, left}
 use Rattle.image_build.specs.declared.Built.{Built}
 use Rattle.segment_rules.specs.Build.{Stores, Left as SegmentsLeft, left as segmentsLeft}
 use Rattle.segment_rules.specs.declared.Built.{Built as SegmentsBuilt}
-use Rattle.maftehon.specs.Reply.{built, imaged, repliedImage, blocked, segmented, repliedSegments}
-use Rattle.refusals.specs.Reply.{Reply, counted, replied}
+use Rattle.count_rules.specs.Counted.{Counted, counted as withCounts}
+use Rattle.maftehon.specs.Reply.{built, imaged, repliedImage, blocked, segmented, repliedSegments, repliedPlace, booked, repliedBook}
+use Rattle.refusals.specs.Reply.{Reply, placed, counted, replied}
 
 pub replied-is :
     (x : Answer) (words : List ℕ) (promised : Outcome Answer) (y : Reply) → outcome x words ≡ promised → y ≡ counted x
@@ -25,3 +26,13 @@ pub replied-segments-is :
     (x : SegmentsBuilt) (s : Stores) (promised : SegmentsLeft) (y : Reply) → segmentsLeft x s ≡ promised → y ≡ blocked x
     → segmented y s ≡ repliedSegments promised
 replied-segments-is x s promised y p q = ap (λ z. segmented z s) q ∙ ap repliedSegments p
+
+pub replied-place-is :
+    (x : Answer) (words : List ℕ) (promised : Outcome Answer) (y : Reply) → outcome x words ≡ promised → y ≡ placed x
+    → outcome y words ≡ repliedPlace promised
+replied-place-is x words promised y p q = ap (λ z. outcome z words) q ∙ ap repliedPlace p
+
+pub replied-book-is :
+    (x : Answer) (rows counts : List ℕ) (promised : Counted) (y : Reply) → withCounts x rows counts ≡ promised → y ≡ counted x
+    → booked y rows counts ≡ repliedBook promised
+replied-book-is x rows counts promised y p q = ap (λ z. booked z rows counts) q ∙ ap repliedBook p

@@ -5,7 +5,7 @@ use denote.Ref.{now}
 use Rattle.promise.specs.Determined.{Determined}
 use Rattle.promise.specs.Over.{outcome}
 use Rattle.segment_rules.specs.Build.{stores}
-use Rattle.maftehon.specs.Reply.{imaged, segmented}
+use Rattle.maftehon.specs.Reply.{imaged, segmented, booked}
 use Rattle.refusals.specs.Reply.{reply}
 use Rattle.maftehon.proofs.files.mft_file_read.Kinds as file-read-kinds
 use Rattle.maftehon.proofs.files.mft_file_read.Reads as file-read-reads
@@ -21,10 +21,6 @@ use Rattle.maftehon.proofs.tables.mft_table_check.Kinds as table-check-
 use Rattle.maftehon.proofs.tables.mft_table_check.Reads as table-check-reads
 use Rattle.maftehon.proofs.tables.mft_table_lookup.Kinds as table-lookup-kinds
 use Rattle.maftehon.proofs.tables.mft_table_lookup.Reads as table-lookup-reads
-use Rattle.maftehon.proofs.tables.mft_table_announce.Kinds as table-announce-kinds
-use Rattle.maftehon.proofs.tables.mft_table_announce.Reads as table-announce-reads
-use Rattle.maftehon.proofs.tables.mft_table_withdraw.Kinds as table-withdraw-kinds
-use Rattle.maftehon.proofs.tables.mft_table_withdraw.Reads as table-withdraw-reads
 use Rattle.maftehon.proofs.tables.mft_table_build.Kinds as table-build-kinds
 use Rattle.maftehon.proofs.tables.mft_table_build.Reads as table-build-reads
 use Rattle.maftehon.proofs.tables.mft_table_save.Kinds as table-save-kinds
@@ -47,10 +43,16 @@ use Rattle.maftehon.proofs.segments.mft_segments_lookup.Kinds as segmen
 use Rattle.maftehon.proofs.segments.mft_segments_lookup.Reads as segments-lookup-reads
 use Rattle.maftehon.proofs.segments.mft_segments_entries.Kinds as segments-entries-kinds
 use Rattle.maftehon.proofs.segments.mft_segments_entries.Reads as segments-entries-reads
-use Rattle.maftehon.proofs.messages.mft_message_apply.Kinds as message-apply-kinds
-use Rattle.maftehon.proofs.messages.mft_message_apply.Reads as message-apply-reads
 use Rattle.maftehon.proofs.messages.mft_message_write.Kinds as message-write-kinds
 use Rattle.maftehon.proofs.messages.mft_message_write.Reads as message-write-reads
+use Rattle.maftehon.proofs.counts.mft_counts_make.Kinds as counts-make-kinds
+use Rattle.maftehon.proofs.counts.mft_counts_make.Reads as counts-make-reads
+use Rattle.maftehon.proofs.counts.mft_counted_announce.Kinds as counted-announce-kinds
+use Rattle.maftehon.proofs.counts.mft_counted_announce.Reads as counted-announce-reads
+use Rattle.maftehon.proofs.counts.mft_counted_withdraw.Kinds as counted-withdraw-kinds
+use Rattle.maftehon.proofs.counts.mft_counted_withdraw.Reads as counted-withdraw-reads
+use Rattle.maftehon.proofs.counts.mft_counted_message.Kinds as counted-message-kinds
+use Rattle.maftehon.proofs.counts.mft_counted_message.Reads as counted-message-reads
 
 file-read-unique : Determined 3 file-read-kinds.ps file-read-kinds.r file-read-reads.Post (λ κs x s. outcome (reply x (now (s .1 .1 .0))) (now (s .1 .0)))
 file-read-unique κs a x y s t p q = p ∙ sym q
@@ -72,12 +74,6 @@ table-check-unique κs a x y s t p q = p ∙ sym q
 
 table-lookup-unique : Determined 2 table-lookup-kinds.ps table-lookup-kinds.r table-lookup-reads.Post (λ κs x s. reply x (now (s .1 .1 .1 .0)))
 table-lookup-unique κs a x y s t p q = p ∙ sym q
-
-table-announce-unique : Determined 2 table-announce-kinds.ps table-announce-kinds.r table-announce-reads.Post (λ κs x s. outcome (reply x (now (s .1 .1 .1 .1 .1 .0))) (now (s .0)))
-table-announce-unique κs a x y s t p q = p ∙ sym q
-
-table-withdraw-unique : Determined 2 table-withdraw-kinds.ps table-withdraw-kinds.r table-withdraw-reads.Post (λ κs x s. outcome (reply x (now (s .1 .1 .1 .1 .0))) (now (s .0)))
-table-withdraw-unique κs a x y s t p q = p ∙ sym q
 
 table-build-unique : Determined 3 table-build-kinds.ps table-build-kinds.r table-build-reads.Post (λ κs x s. outcome (reply x (now (s .1 .1 .0))) (now (s .1 .0)))
 table-build-unique κs a x y s t p q = p ∙ sym q
@@ -112,8 +108,17 @@ segments-lookup-unique κs a x y s t p q = p ∙ sym q
 segments-entries-unique : Determined 3 segments-entries-kinds.ps segments-entries-kinds.r segments-entries-reads.Post (λ κs x s. reply x (now (s .1 .1 .1 .0)))
 segments-entries-unique κs a x y s t p q = p ∙ sym q
 
-message-apply-unique : Determined 3 message-apply-kinds.ps message-apply-kinds.r message-apply-reads.Post (λ κs x s. outcome (reply x (now (s .1 .1 .1 .1 .0))) (now (s .1 .1 .0)))
-message-apply-unique κs a x y s t p q = p ∙ sym q
-
 message-write-unique : Determined 3 message-write-kinds.ps message-write-kinds.r message-write-reads.Post (λ κs x s. outcome (reply x (now (s .1 .1 .0))) (now (s .1 .0)))
 message-write-unique κs a x y s t p q = p ∙ sym q
+
+counts-make-unique : Determined 3 counts-make-kinds.ps counts-make-kinds.r counts-make-reads.Post (λ κs x s. outcome (reply x (now (s .1 .1 .1 .0))) (now (s .1 .1 .0)))
+counts-make-unique κs a x y s t p q = p ∙ sym q
+
+counted-announce-unique : Determined 3 counted-announce-kinds.ps counted-announce-kinds.r counted-announce-reads.Post (λ κs x s. booked (reply x (now (s .1 .1 .1 .1 .1 .1 .0))) (now (s .0)) (now (s .1 .1 .1 .1 .1 .0)))
+counted-announce-unique κs a x y s t p q = p ∙ sym q
+
+counted-withdraw-unique : Determined 3 counted-withdraw-kinds.ps counted-withdraw-kinds.r counted-withdraw-reads.Post (λ κs x s. booked (reply x (now (s .1 .1 .1 .1 .1 .0))) (now (s .0)) (now (s .1 .1 .1 .1 .0)))
+counted-withdraw-unique κs a x y s t p q = p ∙ sym q
+
+counted-message-unique : Determined 4 counted-message-kinds.ps counted-message-kinds.r counted-message-reads.Post (λ κs x s. booked (reply x (now (s .1 .1 .1 .1 .1 .0))) (now (s .1 .1 .0)) (now (s .1 .1 .1 .1 .0)))
+counted-message-unique κs a x y s t p q = p ∙ sym q

@@ -1,25 +1,10 @@
-// UPDATE messages of RFC 4271.
+// UPDATE messages of RFC 4271, written; `counts` has the one that is applied.
 ghost use mathlib.Core.Path.{_≡_};
 ghost use Rattle.promise.specs.Over.{outcome};
-ghost use Rattle.table_rows.specs.Words.{fiveWords};
 ghost use Rattle.message_rules.specs.Written.{writeMessage};
-ghost use Rattle.message_calls.specs.Apply.{applyInto};
 ghost use Rattle.refusals.specs.Reply.{reply, replied};
 use message_write::write_message;
 use refusals::reply::counted;
-
-#[no_mangle]
-pub extern "C" fn mft_message_apply(
-    message: &[u8],
-    port: u32,
-    rows: &mut [u32],
-    n: u32,
-    answer: &mut [u32; 2],
-) -> u32
-    ensures { λ r. ⌜ outcome (reply r (now (answer .exit))) (now (rows .exit)) ≡ replied (applyInto fiveWords 32 (now (message .entry)) port (now (rows .entry)) n) ⌝ }
-{
-    counted(message_apply::apply(message, port, rows, n), answer)
-}
 
 #[no_mangle]
 pub extern "C" fn mft_message_write(list: &[u32], message: &mut [u8], answer: &mut [u32; 2]) -> u32

@@ -1,12 +1,11 @@
-// The table: check and lookup, the changes, and what is made from it.
+// The table: check and lookup, the build, and what is made from it. `counts` has the updates.
 ghost use mathlib.Core.Path.{_≡_};
 ghost use Rattle.promise.specs.Over.{outcome};
-ghost use Rattle.routes.specs.Routes.{route};
 ghost use Rattle.table_rows.specs.Words.{capacity, rowAt, fiveWords};
 ghost use Rattle.table_rules.specs.Lookup.{lookupIn};
 ghost use Rattle.table_rules.specs.Save.{saveInto};
 ghost use Rattle.table_lookup.specs.Good.{tableCheck};
-ghost use Rattle.table_update.specs.Calls.{announceInto, withdrawInto, buildInto};
+ghost use Rattle.table_update.specs.Calls.{buildInto};
 ghost use Rattle.table_runs.specs.TableRuns.{tableRuns};
 ghost use Rattle.refusals.specs.Reply.{reply, placed, looked, replied};
 use refusals::reply::counted;
@@ -27,33 +26,6 @@ pub extern "C" fn mft_table_lookup(rows: &[u32], n: u32, address: u32, answer: &
     ensures { λ r. ⌜ reply r (now (answer .exit)) ≡ looked (lookupIn 32 (capacity (now (rows .entry))) (rowAt (now (rows .entry))) n address) ⌝ }
 {
     looked(table_lookup::lookup(rows, n, address), answer)
-}
-
-#[no_mangle]
-pub extern "C" fn mft_table_announce(
-    rows: &mut [u32],
-    n: u32,
-    value: u32,
-    length: u32,
-    port: u32,
-    answer: &mut [u32; 2],
-) -> u32
-    ensures { λ r. ⌜ outcome (reply r (now (answer .exit))) (now (rows .exit)) ≡ replied (announceInto fiveWords 32 (now (rows .entry)) n (route value length port)) ⌝ }
-{
-    counted(table_update::announce(rows, n, value, length, port), answer)
-}
-
-#[no_mangle]
-pub extern "C" fn mft_table_withdraw(
-    rows: &mut [u32],
-    n: u32,
-    value: u32,
-    length: u32,
-    answer: &mut [u32; 2],
-) -> u32
-    ensures { λ r. ⌜ outcome (reply r (now (answer .exit))) (now (rows .exit)) ≡ replied (withdrawInto fiveWords 32 (now (rows .entry)) n value length) ⌝ }
-{
-    counted(table_update::withdraw(rows, n, value, length), answer)
 }
 
 #[no_mangle]

@@ -1,10 +1,9 @@
 -- Each answer of the call, by what the code knows where it returns. Assumes nothing.
-use mathlib.Core.Path.{_≡_, refl, sym, ap, ap₂, _∙_}
-use mathlib.Core.Bool.{Bool, true, false, cond}
+use mathlib.Core.Path.{_≡_, sym, ap, ap₂, _∙_}
+use mathlib.Core.Bool.{true, false}
 use mathlib.Core.List.{List}
 use Prim.Native.Nat.{ℕ, _-_, _≤_}
 use native.Mathlib.Omega.{arith}
-use lib.Dec.{eqb}
 use lib.ListN.{length, take, drop, length-drop}
 use lib.Seq.{length-take-le, take-all}
 use borrow.Author.Tests.{eq-eqb, ne-eqb}
@@ -17,22 +16,15 @@ use Rattle.table_rows.specs.Words.{fiveWords}
 use Rattle.message_rules.specs.Message.{withdrawnAt, withdrawnSize, attributesSizeAt, announcedAt, withdrawnPart, announcedPart, prefixesIn}
 use Rattle.message_rules.specs.Check.{messageCheck, Fits}
 use Rattle.message_rules.proofs.Heads.{message-fits}
-use Rattle.message_check.specs.Checked.{refusedBy, checkedOf}
+use Rattle.message_check.specs.Checked.{checkedOf}
+use Rattle.message_check.proofs.Whole.{checked-answer}
 use Rattle.message_check.specs.declared.Checked.{Checked}
 use Rattle.message_calls.specs.Apply.{refusedAt, appliedTo, applyInto}
 use Rattle.message_apply.specs.Needs.{Applies}
 
 module _ (message : List ℕ) (port : ℕ) (words : List ℕ) (n : ℕ) (checked : Checked) (checked-is : checked ≡ checkedOf 32 message) where
   answer-is : checked .answer ≡ messageCheck 32 message
-  unfolding checkedOf
-  answer-is = ap (λ (c : Checked). c .answer) checked-is ∙ by (eqb (messageCheck 32 message .number) 0)
-    where
-      done : Checked
-      done = record { answer = messageCheck 32 message; end = attributesSizeAt message; start = announcedAt message }
-
-      by : (b : Bool) → cond {A = Checked} b done (refusedBy (messageCheck 32 message)) .answer ≡ messageCheck 32 message
-      by true = refl
-      by false = refl
+  answer-is = ap (λ (c : Checked). c .answer) checked-is ∙ checked-answer 32 message
 
   pub apply-refused : (checked .answer .number ≡ 0 → ⊥) → (r : Answer) → r ≡ refusedAt (checked .answer .number) (checked .answer .place) n
       → outcome r words ≡ applyInto fiveWords 32 message port words n

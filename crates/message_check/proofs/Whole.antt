@@ -1,8 +1,10 @@
 -- The check of a message from the checks of its head and its parts, in their order. Assumes nothing.
-use mathlib.Core.Path.{_≡_, sym, ap, ap₂, _∙_}
+use mathlib.Core.Path.{_≡_, refl, sym, ap, ap₂, _∙_}
+use mathlib.Core.Bool.{Bool, true, false, cond}
 use mathlib.Core.List.{List}
 use Prim.Native.Nat.{ℕ, _+_, _-_, _≤_}
 use native.Mathlib.Omega.{arith}
+use lib.Dec.{eqb}
 use lib.ListN.{length, take, drop, length-drop}
 use lib.Seq.{length-take-le, take-all}
 use borrow.Author.Tests.{eq-eqb, ne-eqb}
@@ -12,6 +14,19 @@ use Rattle.message_rules.specs.Check.{headCheck, partCheck, messageCheck, Fits}
 use Rattle.message_rules.proofs.Heads.{head-fits}
 use Rattle.message_rules.proofs.Refused.{then-refused, then-next}
 use Rattle.message_check.specs.Checked.{refusedBy, checkedOf}
+use Rattle.message_check.specs.declared.Checked.{Checked}
+
+-- what it answers, whatever it says of the parts
+pub checked-answer : (w : ℕ) (message : List ℕ) → checkedOf w message .answer ≡ messageCheck w message
+unfolding checkedOf
+checked-answer w message = by (eqb (messageCheck w message .number) 0)
+  where
+    done : Checked
+    done = record { answer = messageCheck w message; end = attributesSizeAt message; start = announcedAt message }
+
+    by : (b : Bool) → cond {A = Checked} b done (refusedBy (messageCheck w message)) .answer ≡ messageCheck w message
+    by true = refl
+    by false = refl
 
 module _ (w : ℕ) (message : List ℕ) where
   checked-refused : (a : Answer) → a ≡ messageCheck w message → (a .number ≡ 0 → ⊥) → refusedBy a ≡ checkedOf w message

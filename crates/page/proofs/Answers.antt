@@ -1,14 +1,14 @@
 -- The page for a file, from what its calls answer: RULES, "Program runs". Assumes nothing.
 use mathlib.Core.Path.{_≡_, refl, sym, ap, ap₂, _∙_}
-use mathlib.Core.Logic.{_⊎_, inl, inr, ⊎-elim}
+use mathlib.Core.Logic.{_⊎_, inl, inr}
 use mathlib.Core.Bool.{true, false, cond}
 use mathlib.Core.List.{List, _++_}
-use Prim.Native.Nat.{ℕ, _+_, _*_, _/_, _≤_, _<_}
+use Prim.Native.Nat.{ℕ, _+_, _*_, _≤_, _<_}
 use native.Mathlib.Omega.{arith}
 use lib.Dec.{eqb, leb}
 use lib.ListN.{length, take, drop}
 use lib.Seq.{take-at}
-use borrow.Author.Tests.{eq-eqb, ne-eqb, eqb-true, eqb-false, le-leb, lt-leb, leb-true, leb-false}
+use borrow.Author.Tests.{eq-eqb, eqb-true, eqb-false, le-leb, lt-leb, leb-true, leb-false}
 use Rattle.promise.specs.Over.{Outcome, outcome, over}
 use Rattle.lists.proofs.Tests.{way}
 use Rattle.refusals.specs.Refusals.{noRoom, refused, accepted}
@@ -24,14 +24,14 @@ use Rattle.routes.proofs.Words.{length-list, count-list, route-in-list}
 use Rattle.file_rules.proofs.Trips.{checked-refused, checked-short, checked-done, done-checked}
 use Rattle.file_rules.proofs.Walk.{accepted-whole}
 use Rattle.file_rules.proofs.Whole.{file-valid}
-use Rattle.runs_rules.specs.Runs.{Run, runSize, runWords}
+use Rattle.runs_rules.specs.Runs.{Run, runSize, runWords, runAt}
 use Rattle.runs_rules.specs.Listing.{listed, listRuns}
 use Rattle.runs_rules.proofs.Listing.{listed-lists, listed-few, list-runs-done}
 use Rattle.runs_rules.proofs.Same.{words-accepted, words-listed}
-use Rattle.page.specs.Page.{linesOf, header, runsText, refusedText, mostBytes, mostRoutesShown, mostRunsShown, headerRoom, pageText, pageRoom, pageOf, runAt}
+use Rattle.runs_rules.proofs.Words.{runs-of-words}
+use Rattle.page.specs.Page.{linesOf, header, runsText, refusedText, mostBytes, mostRoutesShown, mostRunsShown, headerRoom, pageText, pageRoom, pageOf}
 use Rattle.page.specs.Needs.{Wrote, Lined, Shown}
-use Rattle.page.proofs.Wrote.{wrote-as, wrote-over}
-use Rattle.page.proofs.Lines.{runs-of-words}
+use Rattle.page.proofs.Wrote.{wrote-over}
 
 -- what the listing of few routes leaves in words that hold it
 module _ (w : ℕ) (list lent : List ℕ) {left out : List ℕ} {a : Answer} (shown : Shown w list out) (size : length lent ≡ mostRunsShown * runSize)

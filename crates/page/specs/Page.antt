@@ -3,14 +3,14 @@ use mathlib.Core.Bool.{cond}
 use mathlib.Core.List.{List, [], _∷_, _++_}
 use Prim.Native.Nat.{ℕ, _+_, _*_}
 use lib.Dec.{eqb, leb}
-use lib.ListN.{length, getD}
+use lib.ListN.{length}
 use Rattle.promise.specs.Over.{Outcome, outcome, over}
 use Rattle.lists.specs.Flat.{flat}
 use Rattle.refusals.specs.Refusals.{noRoom, refused}
 use Rattle.refusals.specs.declared.Answer.{Answer}
 use Rattle.file_rules.specs.File.{fileRoute}
 use Rattle.file_rules.specs.Check.{fileCheck}
-use Rattle.runs_rules.specs.Runs.{Run, run, runSize}
+use Rattle.runs_rules.specs.Runs.{Run}
 use Rattle.runs_rules.specs.Listing.{listed}
 use Rattle.page.specs.Text.{newline, space, mostDigits, numeral, address, addressRoom}
 
@@ -75,7 +75,3 @@ pageText w file =
 unfoldable pub pageOf : ℕ → List ℕ → List ℕ → Outcome ℕ
 pageOf w file out =
     cond (leb pageRoom (length out)) (outcome (length (pageText w file)) (over (pageText w file) out)) (outcome 0 out)
-
--- run i of a listing's words
-abbrev pub runAt : List ℕ → ℕ → Run
-runAt words i = run (getD words (i * runSize) 0) (getD words (i * runSize + 1) 0) (getD words (i * runSize + 2) 0)

@@ -2,5 +2,6 @@
 pub mod Runs
 pub mod Boundaries
 pub mod Listing
+pub mod Words
 pub mod Same
 pub mod Maximal

@@ -2,8 +2,9 @@
 use mathlib.Core.Path.{_≡_}
 use mathlib.Core.Bool.{cond}
 use mathlib.Core.List.{List, [], _∷_}
-use Prim.Native.Nat.{ℕ, zero, suc, _+_, _-_, _≤_, _<_}
+use Prim.Native.Nat.{ℕ, zero, suc, _+_, _-_, _*_, _≤_, _<_}
 use lib.Dec.{eqb}
+use lib.ListN.{getD}
 use Rattle.lists.specs.Flat.{flat}
 
 -- a run: first address, last address, port
@@ -53,3 +54,7 @@ wordsOfRun r = r .first ∷ r .last ∷ r .port ∷ []
 
 abbrev pub runWords : List Run → List ℕ
 runWords rs = flat wordsOfRun rs
+
+-- run i of a listing's words
+abbrev pub runAt : List ℕ → ℕ → Run
+runAt words i = run (getD words (i * runSize) 0) (getD words (i * runSize + 1) 0) (getD words (i * runSize + 2) 0)

@@ -117,32 +117,36 @@ module _ (w capacity : ℕ) (M : Mem) (n : ℕ) (small : capacity ≤ mostRoutes
         (ap (λ (k : ℕ). listed w (routeAt left) k) count ∙ sym (listed-same w (tableRoutes w M n) (routeAt left) n routes-left))
         ∙ sym (rw (is-good z) refl)
 
--- any listing of the routes that a table in good order holds is what is listed of it
-module _ (w capacity : ℕ) (M : Mem) (n : ℕ) (S : Routes) (rs : List Run) (good : GoodFor w capacity M n S) (small : capacity ≤ mostRoutes)
-    (lists : Lists (λ a. scan S (bits w a)) (2 ^ w) 0 rs) where
-  fine : isGood w capacity M n ≡ true
-  fine = check-is-good w capacity M n .1 (S, good)
+-- a table in good order for a set: its routes in list order are scanned as the set is
+module _ (w capacity : ℕ) (M : Mem) (n : ℕ) (S : Routes) (good : GoodFor w capacity M n S) (small : capacity ≤ mostRoutes) where
+  accepted-good : isGood w capacity M n ≡ true
+  accepted-good = check-is-good w capacity M n .1 (S, good)
 
   -- both are the port that the lookup answers
-  scan-is : (x : ℕ) → x < 2 ^ w → scan S (bits w x) ≡ scanOf w (tableRoutes w M n) n x
+  pub scan-is : (x : ℕ) → x < 2 ^ w → scan S (bits w x) ≡ scanOf w (tableRoutes w M n) n x
   scan-is x h =
       sym (ap (λ (f : Found). f .port) (lookup-is-scan w capacity M n x S good h))
-      ∙ lookup-is-saved-scan w capacity M n x fine (omega (arith, good .few)) h .port
+      ∙ lookup-is-saved-scan w capacity M n x accepted-good (omega (arith, good .few)) h .port
 
-  is-listed : rs ≡ listed w (tableRoutes w M n) n
-  is-listed =
-      listing-unique (scanOf w (tableRoutes w M n) n) (2 ^ w) rs (listed w (tableRoutes w M n) n)
-      (lists-same (λ x. scan S (bits w x)) (scanOf w (tableRoutes w M n) n) (2 ^ w) 0 rs scan-is lists)
-      (listed-lists w (tableRoutes w M n) n)
+  pub routes-valid : ValidList w (tableRoutes w M n) n
+  routes-valid = saved-is w capacity M n S good (omega (arith, good .few)) .list
+
+  -- any listing of the routes that it holds is what is listed of it
+  module _ (rs : List Run) (lists : Lists (λ a. scan S (bits w a)) (2 ^ w) 0 rs) where
+    is-listed : rs ≡ listed w (tableRoutes w M n) n
+    is-listed =
+        listing-unique (scanOf w (tableRoutes w M n) n) (2 ^ w) rs (listed w (tableRoutes w M n) n)
+        (lists-same (λ x. scan S (bits w x)) (scanOf w (tableRoutes w M n) n) (2 ^ w) 0 rs scan-is lists)
+        (listed-lists w (tableRoutes w M n) n)
 
 pub table-few : TableFew
 table-few w capacity M n S rs good small lists =
-    rw (is-listed w capacity M n S rs good small lists)
-    (never-too-many w (tableRoutes w M n) n (saved-is w capacity M n S good (omega (arith, good .few)) .list))
+    rw (is-listed w capacity M n S good small rs lists)
+    (never-too-many w (tableRoutes w M n) n (routes-valid w capacity M n S good small))
 
 pub table-runs-done : TableRunsDone
 unfolding tableRuns writeRuns
 table-runs-done w capacity M n S lent rs good small lists room =
-    rw (fine w capacity M n S rs good small lists)
-    (ap (λ (qs : List Run). writeRuns qs lent) (sym (is-listed w capacity M n S rs good small lists))
+    rw (accepted-good w capacity M n S good small)
+    (ap (λ (qs : List Run). writeRuns qs lent) (sym (is-listed w capacity M n S good small rs lists))
     ∙ rw (le-leb (length rs) (length lent / runSize) (omega (arith, room))) refl)

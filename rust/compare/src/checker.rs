@@ -6,7 +6,7 @@ use crate::tally::Tally;
 use reference::Answer;
 use std::fmt::{self, Debug};
 use workload::segments::Stores;
-use workload::{list_of, Held};
+use workload::{list_of, Held, COUNTS};
 
 /// What a compared call, or a scenario of them, gives where the two libraries agree.
 ///
@@ -22,6 +22,9 @@ pub struct Difference {
     arguments: String,
     what: String,
 }
+
+/// All there are.
+const ADDRESSES: u64 = 1 << 32;
 
 /// A large input or output is not printed whole: the seed makes it again.
 const SHOWN_LAST: usize = 400;
@@ -153,26 +156,6 @@ impl<'a> Checker<'a> {
         Ok(found?.0)
     }
 
-    /// The rows are afterwards what the right library leaves.
-    pub fn table_announce(&mut self, rows: &mut [u32], n: u32, route: [u32; 3]) -> Compared<Answer<2>> {
-        let [value, length, port] = route;
-        let (answer, lent) = self.one("table_announce", Lent::of(rows), (n, route), |library, rows| {
-            (library.table_announce)(rows.all_mut(), n, value, length, port)
-        })?;
-        rows.copy_from_slice(lent.all());
-        Ok(answer)
-    }
-
-    /// The rows are afterwards what the right library leaves.
-    pub fn table_withdraw(&mut self, rows: &mut [u32], n: u32, prefix: (u32, u32)) -> Compared<Answer<2>> {
-        let (value, length) = prefix;
-        let (answer, lent) = self.one("table_withdraw", Lent::of(rows), (n, prefix), |library, rows| {
-            (library.table_withdraw)(rows.all_mut(), n, value, length)
-        })?;
-        rows.copy_from_slice(lent.all());
-        Ok(answer)
-    }
-
     pub fn table_build(&mut self, list: &[u32], room: usize) -> Compared<(Answer<2>, Vec<u32>)> {
         let lent = (Lent::of(list), Lent::room(room));
         let (answer, (_, rows)) = self.one("table_build", lent, (list, room), |library, (list, rows)| {
@@ -267,22 +250,100 @@ impl<'a> Checker<'a> {
         Ok(given?.0)
     }
 
-    /// The rows are afterwards what the right library leaves.
-    pub fn message_apply(&mut self, message: &[u8], port: u32, rows: &mut [u32], n: u32) -> Compared<Answer<2>> {
-        let lent = (Lent::of(message), Lent::of(rows));
-        let (answer, (_, lent)) = self.one("message_apply", lent, (message, port, n), |library, (message, rows)| {
-            (library.message_apply)(message.all(), port, rows.all_mut(), n)
-        })?;
-        rows.copy_from_slice(lent.all());
-        Ok(answer)
-    }
-
     pub fn message_write(&mut self, list: &[u32], room: usize) -> Compared<(Answer<2>, Vec<u8>)> {
         let lent = (Lent::of(list), Lent::room(room));
         let (answer, (_, message)) = self.one("message_write", lent, (list, room), |library, (list, message)| {
             (library.message_write)(list.all(), message.all_mut())
         })?;
         Ok((answer, message.all().to_vec()))
+    }
+
+    /// The counts are afterwards what the right library leaves.
+    pub fn counts_make(&mut self, rows: &[u32], n: u32, counts: &mut [u64]) -> Compared<Answer<1>> {
+        let lent = (Lent::of(rows), Lent::of(counts));
+        let (answer, (_, left)) = self.one("counts_make", lent, (n, counts.len()), |library, (rows, counts)| {
+            (library.counts_make)(rows.all(), n, counts.all_mut())
+        })?;
+        counts.copy_from_slice(left.all());
+        Ok(answer)
+    }
+
+    /// The counts of a table, made in just the memory that they take; of one not in good order, counts of no table.
+    pub fn counts_of(&mut self, rows: &[u32], n: u32) -> Compared<Vec<u64>> {
+        let mut counts = vec![u64::MAX; COUNTS];
+        self.counts_make(rows, n, &mut counts)?;
+        Ok(counts)
+    }
+
+    /// The rows and the counts are afterwards what the right library leaves.
+    pub fn counted_announce(
+        &mut self,
+        rows: &mut [u32],
+        n: u32,
+        route: [u32; 3],
+        counts: &mut [u64],
+    ) -> Compared<Answer<2>> {
+        let [value, length, port] = route;
+        let (lent, argument) = (lent_table(rows, counts), (n, route, counts.len()));
+        let (answer, left) = self.one("counted_announce", lent, argument, |library, (rows, counts)| {
+            (library.counted_announce)(rows.all_mut(), n, value, length, port, counts.all_mut())
+        })?;
+        hand_back(left, rows, counts);
+        Ok(answer)
+    }
+
+    /// The rows and the counts are afterwards what the right library leaves.
+    pub fn counted_withdraw(
+        &mut self,
+        rows: &mut [u32],
+        n: u32,
+        prefix: (u32, u32),
+        counts: &mut [u64],
+    ) -> Compared<Answer<2>> {
+        let (value, length) = prefix;
+        let (lent, argument) = (lent_table(rows, counts), (n, prefix, counts.len()));
+        let (answer, left) = self.one("counted_withdraw", lent, argument, |library, (rows, counts)| {
+            (library.counted_withdraw)(rows.all_mut(), n, value, length, counts.all_mut())
+        })?;
+        hand_back(left, rows, counts);
+        Ok(answer)
+    }
+
+    /// The rows and the counts are afterwards what the right library leaves.
+    pub fn counted_message(
+        &mut self,
+        message: &[u8],
+        port: u32,
+        rows: &mut [u32],
+        n: u32,
+        counts: &mut [u64],
+    ) -> Compared<Answer<2>> {
+        let (lent, argument) = ((Lent::of(message), lent_table(rows, counts)), (message, port, n, counts.len()));
+        let (answer, (_, left)) =
+            self.one("counted_message", lent, argument, |library, (message, (rows, counts))| {
+                (library.counted_message)(message.all(), port, rows.all_mut(), n, counts.all_mut())
+            })?;
+        hand_back(left, rows, counts);
+        Ok(answer)
+    }
+
+    /// Makes the counts of a table: they are to be those that were kept beside it, and to total all addresses.
+    pub fn counts_kept(&mut self, rows: &[u32], n: u32, kept: &[u64]) -> Compared<()> {
+        let made = self.counts_of(rows, n)?;
+        if made != kept[..COUNTS] {
+            let what = format!("made {}, and kept beside the table were {}", shown(&made), shown(&kept));
+            return Err(Difference::new("counts_make", &(n,), what));
+        }
+        self.counts_total(n, kept)
+    }
+
+    /// The counts that were kept beside a table are to total all addresses.
+    pub fn counts_total(&self, n: u32, kept: &[u64]) -> Compared<()> {
+        let total: u64 = kept[..COUNTS].iter().sum();
+        if total != ADDRESSES {
+            return Err(Difference::new("counts kept", &(n,), format!("total {total}, and are to total {ADDRESSES}")));
+        }
+        Ok(())
     }
 
     /// Saves a table: it is to hold the routes expected, which no library made, and no others.
@@ -297,4 +358,16 @@ impl<'a> Checker<'a> {
         }
         Ok(())
     }
+}
+
+/// The memory of an update.
+type LentTable = (Lent<u32>, Lent<u64>);
+
+fn lent_table(rows: &[u32], counts: &[u64]) -> LentTable {
+    (Lent::of(rows), Lent::of(counts))
+}
+
+fn hand_back(left: LentTable, rows: &mut [u32], counts: &mut [u64]) {
+    rows.copy_from_slice(left.0.all());
+    counts.copy_from_slice(left.1.all());
 }

@@ -22,6 +22,10 @@ impl Pattern for u32 {
     const PATTERN: u32 = 0xDEAD_BEEF;
 }
 
+impl Pattern for u64 {
+    const PATTERN: u64 = 0xDEAD_BEEF_A5C3_5A3C;
+}
+
 /// One lent stretch of memory, between its guards.
 #[derive(Clone)]
 pub struct Lent<T>(Vec<T>);

@@ -3,6 +3,11 @@
 use maftehon::calls::{self, Reply};
 use reference::Answer;
 
+/// Rows, n, value, length, port, counts.
+pub type CountedAnnounce = fn(&mut [u32], u32, u32, u32, u32, &mut [u64]) -> Answer<2>;
+/// Message, port, rows, n, counts.
+pub type CountedMessage = fn(&[u8], u32, &mut [u32], u32, &mut [u64]) -> Answer<2>;
+
 /// The calls of the boundary. A wrong library, to try the comparison itself, is `Library { call: .., ..REFERENCE }`.
 pub struct Library {
     pub file_read: fn(&[u8], &mut [u32]) -> Answer<2>,
@@ -11,8 +16,6 @@ pub struct Library {
     pub list_scan: fn(&[u32], u32) -> Answer<2>,
     pub table_check: fn(&[u32], u32) -> Answer<1>,
     pub table_lookup: fn(&[u32], u32, u32) -> Answer<3>,
-    pub table_announce: fn(&mut [u32], u32, u32, u32, u32) -> Answer<2>,
-    pub table_withdraw: fn(&mut [u32], u32, u32, u32) -> Answer<2>,
     pub table_build: fn(&[u32], &mut [u32]) -> Answer<2>,
     pub table_save: fn(&[u32], u32, &mut [u32]) -> Answer<2>,
     pub image_build: fn(u32, &[u32], &mut [u32], &mut [u16]) -> Answer<3>,
@@ -26,8 +29,11 @@ pub struct Library {
     pub segments_lookup: fn([&[u16]; 4], u32) -> Answer<3>,
     /// The stores are packed and plain.
     pub segments_entries: fn([&[u16]; 2], u32) -> Answer<3>,
-    pub message_apply: fn(&[u8], u32, &mut [u32], u32) -> Answer<2>,
     pub message_write: fn(&[u32], &mut [u8]) -> Answer<2>,
+    pub counts_make: fn(&[u32], u32, &mut [u64]) -> Answer<1>,
+    pub counted_announce: CountedAnnounce,
+    pub counted_withdraw: fn(&mut [u32], u32, u32, u32, &mut [u64]) -> Answer<2>,
+    pub counted_message: CountedMessage,
 }
 
 /// The rules in plain Rust, which have one image lookup for every stride.
@@ -38,8 +44,6 @@ pub const REFERENCE: Library = Library {
     list_scan: reference::list_scan,
     table_check: reference::table_check,
     table_lookup: reference::table_lookup,
-    table_announce: reference::table_announce,
-    table_withdraw: reference::table_withdraw,
     table_build: reference::table_build,
     table_save: reference::table_save,
     image_build: reference::image_build,
@@ -52,8 +56,11 @@ pub const REFERENCE: Library = Library {
         reference::segments_lookup(first, packed, plain, last, address)
     },
     segments_entries: |[packed, plain], entry| reference::segments_entries(packed, plain, entry),
-    message_apply: reference::message_apply,
     message_write: reference::message_write,
+    counts_make: reference::counts_make,
+    counted_announce: reference::counted_announce,
+    counted_withdraw: reference::counted_withdraw,
+    counted_message: reference::counted_message,
 };
 
 /// The proved library, through its C boundary.
@@ -64,8 +71,6 @@ pub const PROVED: Library = Library {
     list_scan: |list, address| of(calls::list_scan(list, address)),
     table_check: |rows, n| of(calls::table_check(rows, n)),
     table_lookup: |rows, n, address| of(calls::table_lookup(rows, n, address)),
-    table_announce: |rows, n, value, length, port| of(calls::table_announce(rows, n, value, length, port)),
-    table_withdraw: |rows, n, value, length| of(calls::table_withdraw(rows, n, value, length)),
     table_build: |list, rows| of(calls::table_build(list, rows)),
     table_save: |rows, n, list| of(calls::table_save(rows, n, list)),
     image_build: |stride, list, nodes, ports| of(calls::image_build(stride, list, nodes, ports)),
@@ -86,8 +91,13 @@ pub const PROVED: Library = Library {
         of(calls::segments_lookup(first, packed, plain, last, address))
     },
     segments_entries: |[packed, plain], entry| of(calls::segments_entries(packed, plain, entry)),
-    message_apply: |message, port, rows, n| of(calls::message_apply(message, port, rows, n)),
     message_write: |list, message| of(calls::message_write(list, message)),
+    counts_make: |rows, n, counts| of(calls::counts_make(rows, n, counts)),
+    counted_announce: |rows, n, value, length, port, counts| {
+        of(calls::counted_announce(rows, n, value, length, port, counts))
+    },
+    counted_withdraw: |rows, n, value, length, counts| of(calls::counted_withdraw(rows, n, value, length, counts)),
+    counted_message: |message, port, rows, n, counts| of(calls::counted_message(message, port, rows, n, counts)),
 };
 
 fn of<const N: usize>(reply: Reply<N>) -> Answer<N> {

@@ -1,5 +1,6 @@
 //! The comparison itself: libraries that are wrong in one call are told from the reference.
 
+mod counts;
 mod messages;
 mod segments;
 mod walk;
@@ -160,11 +161,11 @@ fn a_place_counted_from_1_is_told() {
 #[test]
 fn an_announcement_that_is_lost_is_told() {
     assert_told(
-        "table_announce",
+        "counted_announce",
         Library {
-            table_announce: |rows, n, value, length, port| {
+            counted_announce: |rows, n, value, length, port, counts| {
                 let before = rows.to_vec();
-                let answer = reference::table_announce(rows, n, value, length, port);
+                let answer = reference::counted_announce(rows, n, value, length, port, counts);
                 if answer.answer[1] == n {
                     rows.copy_from_slice(&before);
                 }

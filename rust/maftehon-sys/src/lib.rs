@@ -37,23 +37,6 @@ unsafe extern "C" {
 
     pub fn mft_table_check(rows: *const u32, row_words: usize, n: u32, answer: *mut u32) -> u32;
     pub fn mft_table_lookup(rows: *const u32, row_words: usize, n: u32, address: u32, answer: *mut u32) -> u32;
-    pub fn mft_table_announce(
-        rows: *mut u32,
-        row_words: usize,
-        n: u32,
-        value: u32,
-        length: u32,
-        port: u32,
-        answer: *mut u32,
-    ) -> u32;
-    pub fn mft_table_withdraw(
-        rows: *mut u32,
-        row_words: usize,
-        n: u32,
-        value: u32,
-        length: u32,
-        answer: *mut u32,
-    ) -> u32;
     pub fn mft_table_build(
         list: *const u32,
         list_words: usize,
@@ -164,20 +147,52 @@ unsafe extern "C" {
         answer: *mut u32,
     ) -> u32;
 
-    pub fn mft_message_apply(
+    pub fn mft_message_write(
+        list: *const u32,
+        list_words: usize,
+        message: *mut u8,
+        message_size: usize,
+        answer: *mut u32,
+    ) -> u32;
+
+    pub fn mft_counts_make(
+        rows: *const u32,
+        row_words: usize,
+        n: u32,
+        counts: *mut u64,
+        count_room: usize,
+        answer: *mut u32,
+    ) -> u32;
+    pub fn mft_counted_announce(
+        rows: *mut u32,
+        row_words: usize,
+        n: u32,
+        value: u32,
+        length: u32,
+        port: u32,
+        counts: *mut u64,
+        count_room: usize,
+        answer: *mut u32,
+    ) -> u32;
+    pub fn mft_counted_withdraw(
+        rows: *mut u32,
+        row_words: usize,
+        n: u32,
+        value: u32,
+        length: u32,
+        counts: *mut u64,
+        count_room: usize,
+        answer: *mut u32,
+    ) -> u32;
+    pub fn mft_counted_message(
         message: *const u8,
         message_size: usize,
         port: u32,
         rows: *mut u32,
         row_words: usize,
         n: u32,
-        answer: *mut u32,
-    ) -> u32;
-    pub fn mft_message_write(
-        list: *const u32,
-        list_words: usize,
-        message: *mut u8,
-        message_size: usize,
+        counts: *mut u64,
+        count_room: usize,
         answer: *mut u32,
     ) -> u32;
 }

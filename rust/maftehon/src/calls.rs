@@ -7,7 +7,8 @@
 //! other slice, and `answer` is a fresh array of the size that the header states. The library keeps no pointer after
 //! the call.
 //!
-//! The lookups are so short that they are inlined: nothing comes between a program and the library.
+//! The lookups are so short that they are inlined: nothing comes between a program and the library. What the calls on
+//! counts take of the stack is much, and the header says how much.
 
 use maftehon_sys as sys;
 
@@ -56,16 +57,6 @@ pub fn table_check(rows: &[u32], n: u32) -> Reply<1> {
 #[inline]
 pub fn table_lookup(rows: &[u32], n: u32, address: u32) -> Reply<3> {
     reply(|answer| unsafe { sys::mft_table_lookup(rows.as_ptr(), rows.len(), n, address, answer) })
-}
-
-/// Announces a route. Answer: place, n.
-pub fn table_announce(rows: &mut [u32], n: u32, value: u32, length: u32, port: u32) -> Reply<2> {
-    reply(|answer| unsafe { sys::mft_table_announce(rows.as_mut_ptr(), rows.len(), n, value, length, port, answer) })
-}
-
-/// Withdraws a prefix. Answer: place, n.
-pub fn table_withdraw(rows: &mut [u32], n: u32, value: u32, length: u32) -> Reply<2> {
-    reply(|answer| unsafe { sys::mft_table_withdraw(rows.as_mut_ptr(), rows.len(), n, value, length, answer) })
 }
 
 /// Builds a table from a list. Answer: place, n.
@@ -181,18 +172,68 @@ pub fn segments_entries(packed: &[u16], plain: &[u16], entry: u32) -> Reply<3> {
     })
 }
 
-/// Applies an UPDATE message to a table, its announced prefixes with this port; takes about 80 KB of stack.
-/// Answer: place, n.
-pub fn message_apply(message: &[u8], port: u32, rows: &mut [u32], n: u32) -> Reply<2> {
-    let (words, row_words) = (rows.as_mut_ptr(), rows.len());
-    reply(|answer| unsafe {
-        sys::mft_message_apply(message.as_ptr(), message.len(), port, words, row_words, n, answer)
-    })
-}
-
 /// Writes the UPDATE message that withdraws the prefixes of a list. Answer: place, bytes written.
 pub fn message_write(list: &[u32], message: &mut [u8]) -> Reply<2> {
     reply(|answer| unsafe {
         sys::mft_message_write(list.as_ptr(), list.len(), message.as_mut_ptr(), message.len(), answer)
+    })
+}
+
+/// Makes the counts of a table afresh: how many addresses have no route, and how many go to each port 1..4094. What is
+/// lent past these 4,095 is neither read nor written, by the updates below too. Answer: place.
+pub fn counts_make(rows: &[u32], n: u32, counts: &mut [u64]) -> Reply<1> {
+    reply(|answer| unsafe {
+        sys::mft_counts_make(rows.as_ptr(), rows.len(), n, counts.as_mut_ptr(), counts.len(), answer)
+    })
+}
+
+/// Announces a route, and rewrites the counts. Answer: place, n.
+pub fn counted_announce(rows: &mut [u32], n: u32, value: u32, length: u32, port: u32, counts: &mut [u64]) -> Reply<2> {
+    reply(|answer| unsafe {
+        sys::mft_counted_announce(
+            rows.as_mut_ptr(),
+            rows.len(),
+            n,
+            value,
+            length,
+            port,
+            counts.as_mut_ptr(),
+            counts.len(),
+            answer,
+        )
+    })
+}
+
+/// Withdraws a prefix, and rewrites the counts. Answer: place, n.
+pub fn counted_withdraw(rows: &mut [u32], n: u32, value: u32, length: u32, counts: &mut [u64]) -> Reply<2> {
+    reply(|answer| unsafe {
+        sys::mft_counted_withdraw(
+            rows.as_mut_ptr(),
+            rows.len(),
+            n,
+            value,
+            length,
+            counts.as_mut_ptr(),
+            counts.len(),
+            answer,
+        )
+    })
+}
+
+/// Applies an UPDATE message to a table, its announced prefixes with this port, and rewrites the counts.
+/// Answer: place, n.
+pub fn counted_message(message: &[u8], port: u32, rows: &mut [u32], n: u32, counts: &mut [u64]) -> Reply<2> {
+    reply(|answer| unsafe {
+        sys::mft_counted_message(
+            message.as_ptr(),
+            message.len(),
+            port,
+            rows.as_mut_ptr(),
+            rows.len(),
+            n,
+            counts.as_mut_ptr(),
+            counts.len(),
+            answer,
+        )
     })
 }

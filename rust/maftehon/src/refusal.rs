@@ -51,11 +51,12 @@ pub enum Refusal {
     NotAbove(Place),
     /// 8: more than 4,096 routes.
     TooManyRoutes(Place),
-    /// 9: no room for what is to be written, the table is full, or a message would have over 4,096 bytes.
+    /// 9: no room for what is to be written, or for the counts, the table is full, or a message would have over 4,096
+    /// bytes.
     NoRoom,
     /// 10: the withdrawn prefix is not held.
     NotHeld,
-    /// 11: the table, the image or the segment tables are not in good order.
+    /// 11: the table, the image or the segment tables are not in good order, or the counts lent are not the table's.
     NotInOrder,
     /// 12: the stride is not 1, 2 or 4.
     WrongStride,
@@ -139,7 +140,9 @@ impl Refusal {
             Refusal::TooManyRoutes(_) => "there are more than 4096 routes",
             Refusal::NoRoom => "there is no room left",
             Refusal::NotHeld => "the prefix to withdraw is not in the table",
-            Refusal::NotInOrder => "the table, image or segment tables are damaged; build them again from the list",
+            Refusal::NotInOrder => {
+                "the table, its counts, the image or the segment tables are damaged; build them again from the list"
+            }
             Refusal::WrongStride => "the stride is not 1, 2 or 4",
             Refusal::BadMessage(Place::MessageByte(MESSAGE_LENGTH_AT)) => {
                 "the length is outside 23 to 4096, or not the number of bytes; the message may be cut off"

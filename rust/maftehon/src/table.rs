@@ -1,4 +1,5 @@
-//! The table: a priority trie that takes announcements and withdrawals, one by one or by the message.
+//! The table: a priority trie that takes announcements and withdrawals, one by one or by the message, and the number of
+//! addresses that go to each port.
 
 use crate::calls;
 use crate::list::{room_for_runs, RouteList, ROUTES_LAST};
@@ -9,8 +10,15 @@ use std::net::Ipv4Addr;
 
 /// Words of a row: value, length, port, left row, right row.
 const ROW_WORDS: usize = 5;
+/// The last port of a route.
+const PORT_LAST: u16 = 4094;
+/// One count for each port, and first the one of the addresses without a route.
+const COUNTS: usize = PORT_LAST as usize + 1;
+const NO_ROUTE: usize = 0;
 
-/// A table in good order, with room for a fixed number of routes.
+/// A table in good order, with room for a fixed number of routes, and how many addresses go to each port.
+///
+/// To make a table takes some 160 KB of stack, and to update it some 190 KB.
 ///
 /// ```
 /// use maftehon::{Refusal, Route, Table};
@@ -31,12 +39,14 @@ const ROW_WORDS: usize = 5;
 pub struct Table {
     rows: Vec<u32>,
     n: u32,
+    /// Those of the rows, made with them and kept in step by every update.
+    counts: Vec<u64>,
 }
 
 impl Table {
     /// An empty table with room for that many routes, at most 4,096.
     pub fn with_capacity(routes: usize) -> Table {
-        Table { rows: vec![0; routes.min(ROUTES_LAST) * ROW_WORDS], n: 0 }
+        Table::of_rows(room_for_rows(routes), 0)
     }
 
     /// The table of a list, with room for that many routes, at most 4,096.
@@ -45,10 +55,16 @@ impl Table {
     ///
     /// - 9, [`Refusal::NoRoom`]: the list has more routes than that.
     pub fn build(list: &RouteList, capacity: usize) -> Result<Table, Refusal> {
-        let mut table = Table::with_capacity(capacity);
-        let [_, n] = calls::table_build(list.words(), &mut table.rows).of_list()?;
-        table.n = n;
-        Ok(table)
+        let mut rows = room_for_rows(capacity);
+        let [_, n] = calls::table_build(list.words(), &mut rows).of_list()?;
+        Ok(Table::of_rows(rows, n))
+    }
+
+    /// The table of rows in good order, its counts made afresh.
+    fn of_rows(rows: Vec<u32>, n: u32) -> Table {
+        let mut counts = vec![0; COUNTS];
+        calls::counts_make(&rows, n, &mut counts).done();
+        Table { rows, n, counts }
     }
 
     /// Adds the route, or gives its prefix the new port.
@@ -58,7 +74,8 @@ impl Table {
     /// - 9, [`Refusal::NoRoom`]: the prefix is new and the table is full.
     pub fn announce(&mut self, route: Route) -> Result<(), Refusal> {
         let [value, length, port] = route.words();
-        let [_, n] = calls::table_announce(&mut self.rows, self.n, value, length, port).of_whole()?;
+        let [_, n] =
+            calls::counted_announce(&mut self.rows, self.n, value, length, port, &mut self.counts).of_whole()?;
         self.n = n;
         Ok(())
     }
@@ -70,7 +87,7 @@ impl Table {
     /// - 10, [`Refusal::NotHeld`]: the table has no route of this prefix.
     pub fn withdraw(&mut self, prefix: Prefix) -> Result<(), Refusal> {
         let [value, length] = prefix.words();
-        let [_, n] = calls::table_withdraw(&mut self.rows, self.n, value, length).of_whole()?;
+        let [_, n] = calls::counted_withdraw(&mut self.rows, self.n, value, length, &mut self.counts).of_whole()?;
         self.n = n;
         Ok(())
     }
@@ -78,7 +95,7 @@ impl Table {
     /// Applies an UPDATE message of RFC 4271, whole or not at all. What it withdraws and does not announce too is taken
     /// out, where it is held; then what it announces is added or gets the new port, which is one for all. Bits of a
     /// prefix past its length are cleared, and path attributes are passed over. A message with neither prefixes nor
-    /// attributes, the End-of-RIB, changes nothing. The call takes about 80 KB of stack.
+    /// attributes, the End-of-RIB, changes nothing.
     ///
     /// ```
     /// use maftehon::{Place, Refusal, Table};
@@ -116,7 +133,8 @@ impl Table {
     /// - 6, [`Refusal::WrongPort`]: the port is outside 1..4094, also where nothing is announced.
     /// - 9, [`Refusal::NoRoom`]: the table would hold more routes in the end than it has room for.
     pub fn apply(&mut self, message: &[u8], port: u16) -> Result<(), Refusal> {
-        let [_, n] = calls::message_apply(message, port.into(), &mut self.rows, self.n).of_message()?;
+        let [_, n] =
+            calls::counted_message(message, port.into(), &mut self.rows, self.n, &mut self.counts).of_message()?;
         self.n = n;
         Ok(())
     }
@@ -125,6 +143,31 @@ impl Table {
     #[inline]
     pub fn lookup(&self, address: Ipv4Addr) -> Found {
         Found::of(calls::table_lookup(&self.rows, self.n, address.into()).done())
+    }
+
+    /// How many of the 4,294,967,296 addresses a lookup sends to this port, or, with `None`, to no port. No address
+    /// goes to a port outside 1..4094.
+    ///
+    /// ```
+    /// use maftehon::Table;
+    ///
+    /// let mut table = Table::with_capacity(2);
+    /// assert_eq!(table.addresses(None), 1 << 32);
+    /// table.announce("10.0.0.0/8 7".parse()?)?;
+    /// table.announce("10.1.0.0/16 9".parse()?)?;
+    /// // The longer route takes its addresses from the one around it.
+    /// assert_eq!(table.addresses(Some(9)), 1 << 16);
+    /// assert_eq!(table.addresses(Some(7)), (1 << 24) - (1 << 16));
+    /// assert_eq!(table.addresses(None), (1 << 32) - (1 << 24));
+    /// assert_eq!(table.addresses(Some(8)), 0);
+    /// # Ok::<(), Box<dyn std::error::Error>>(())
+    /// ```
+    pub fn addresses(&self, port: Option<u16>) -> u64 {
+        match port {
+            None => self.counts[NO_ROUTE],
+            Some(port @ 1..=PORT_LAST) => self.counts[usize::from(port)],
+            Some(_) => 0,
+        }
     }
 
     /// The routes held, as a list.
@@ -155,4 +198,9 @@ impl Table {
     pub fn capacity(&self) -> usize {
         self.rows.len() / ROW_WORDS
     }
+}
+
+/// Rows for that many routes, at most 4,096.
+fn room_for_rows(routes: usize) -> Vec<u32> {
+    vec![0; routes.min(ROUTES_LAST) * ROW_WORDS]
 }

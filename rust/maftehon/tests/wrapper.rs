@@ -190,6 +190,57 @@ fn a_refused_update_changes_nothing() {
     assert_eq!(table, before);
 }
 
+/// The addresses of a table by port, first those without a route.
+fn addresses_of(table: &Table) -> Vec<(Option<u16>, u64)> {
+    let ports = [None].into_iter().chain((0..=u16::MAX).map(Some));
+    ports.map(|port| (port, table.addresses(port))).filter(|(_, addresses)| *addresses != 0).collect()
+}
+
+#[test]
+fn a_table_answers_how_many_addresses_a_port_gets() {
+    let mut table = Table::with_capacity(4);
+    assert_eq!(addresses_of(&table), [(None, 1 << 32)]);
+    // 10.0.0.0/8 to 7, 10.1.0.0/16 to 9, and 10.1.2.0/24 to 7.
+    floor().routes().for_each(|route| table.announce(route).expect("room for four routes"));
+    let without = (None, (1 << 32) - (1 << 24));
+    let expected = [without, (Some(7), (1 << 24) - (1 << 16) + (1 << 8)), (Some(9), (1 << 16) - (1 << 8))];
+    assert_eq!(addresses_of(&table), expected);
+    assert_eq!(table, Table::build(&floor(), 4).expect("room for four routes"));
+    // The whole space to port 4094 takes what was left over, and 10.1.0.0/16 gives its addresses back.
+    table.announce("0.0.0.0/0 4094".parse().expect("a route")).expect("room for one more");
+    table.withdraw("10.1.0.0/16".parse().expect("a prefix")).expect("it is held");
+    assert_eq!(addresses_of(&table), [(Some(7), 1 << 24), (Some(4094), (1 << 32) - (1 << 24))]);
+    let message = message_with(&[8, 10, 24, 10, 1, 2], &[0]);
+    assert_eq!(table.apply(&message, 1), Ok(()));
+    assert_eq!(addresses_of(&table), [(Some(1), 1 << 32)]);
+}
+
+#[test]
+fn the_addresses_of_all_ports_are_those_of_the_runs() {
+    let mut table = Table::build(&floor(), 4096).expect("room");
+    let runs_of = |table: &Table, port| -> u64 {
+        let of_port = table.runs().into_iter().filter(|run| run.port == port);
+        of_port.map(|run| u64::from(u32::from(run.last)) - u64::from(u32::from(run.first)) + 1).sum()
+    };
+    for number in 0..40u32 {
+        let port = 1 + (number % 4) as u16;
+        let route = Route::new(Ipv4Addr::from(number << 27 & 0x7FFF_FFFF), 5, port).expect("a valid route");
+        let updated = if number % 3 == 2 { table.withdraw(route.prefix()) } else { table.announce(route) };
+        assert!(matches!(updated, Ok(()) | Err(Refusal::NotHeld)), "{updated:?}");
+        let addresses = addresses_of(&table);
+        assert!(addresses.iter().all(|(port, addresses)| runs_of(&table, *port) == *addresses));
+        assert_eq!(addresses.iter().map(|(_, addresses)| addresses).sum::<u64>(), 1 << 32);
+    }
+}
+
+#[test]
+fn a_port_that_no_route_can_have_has_no_address() {
+    let table = Table::with_capacity(1);
+    for port in [0, 4095, u16::MAX] {
+        assert_eq!(table.addresses(Some(port)), 0);
+    }
+}
+
 #[test]
 fn a_prefix_and_a_route_are_refused_4_5_6_in_this_order() {
     let address = Ipv4Addr::new(192, 0, 2, 1);

@@ -23,16 +23,12 @@ const UPDATE: u8 = 2;
 const BYTES_FIRST: usize = WITHDRAWN_AT + LENGTH_BYTES;
 const BYTES_LAST: usize = 4096;
 
-/// What a message says, in its order, with the bits of each prefix past its length cleared.
-struct Update {
+/// What a message says, in its order, with the bits of each prefix past its length cleared, and the one port of all
+/// that it announces.
+pub(crate) struct Update {
     withdrawn: Vec<Prefix>,
     announced: Vec<Prefix>,
-}
-
-/// Applies a message, whole or not at all: 14 at the head's fields; 4, 14 at each prefix; then 6, 11 and 9 at place 0.
-/// Answer: place, n.
-pub fn message_apply(message: &[u8], port: u32, rows: &mut [u32], n: u32) -> Answer<2> {
-    Answer::of(apply(message, port, rows, n), [n])
+    port: u32,
 }
 
 /// Writes the message that withdraws the prefixes of a list: the list checks, then 9 for more than 4,096 bytes or more
@@ -41,9 +37,10 @@ pub fn message_write(list: &[u32], message: &mut [u8]) -> Answer<2> {
     Answer::of(write_into(list, message), [0])
 }
 
-fn apply(message: &[u8], port: u32, rows: &mut [u32], n: u32) -> Result<[u32; 1], Refusal> {
-    let Update { withdrawn, announced } = update_of(message)?;
-    check_port(port, 0)?;
+/// Applies an update to any rows, whole or not at all: 11, then 9 for more routes in the end than the capacity.
+/// Gives n.
+pub(crate) fn apply(rows: &mut [u32], n: u32, update: Update) -> Result<[u32; 1], Refusal> {
+    let Update { withdrawn, announced, port } = update;
     let mut held: BTreeSet<Prefix> = routes_of_table(rows, n)?.iter().map(|route| route.prefix).collect();
     if final_set(&held, &withdrawn, &announced).len() > capacity(rows) as usize {
         return refuse(NO_ROOM, 0);
@@ -74,9 +71,12 @@ fn final_set(held: &BTreeSet<Prefix>, withdrawn: &[Prefix], announced: &[Prefix]
     last
 }
 
-fn update_of(message: &[u8]) -> Result<Update, Refusal> {
+/// 14 at the head's fields; 4, 14 at each prefix; then 6 at place 0, also where nothing is announced.
+pub(crate) fn update_of(message: &[u8], port: u32) -> Result<Update, Refusal> {
     let [withdrawn, announced] = parts_of(message)?;
-    Ok(Update { withdrawn: prefixes_in(message, withdrawn)?, announced: prefixes_in(message, announced)? })
+    let [withdrawn, announced] = [prefixes_in(message, withdrawn)?, prefixes_in(message, announced)?];
+    check_port(port, 0)?;
+    Ok(Update { withdrawn, announced, port })
 }
 
 /// Where the withdrawn and the announced prefixes stand, in a message whose head is right.

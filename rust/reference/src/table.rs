@@ -31,18 +31,6 @@ pub fn table_lookup(rows: &[u32], n: u32, address: u32) -> Answer<3> {
     Answer::of(port.map(|port| [port, rows_read]), [NO_PORT, rows_read])
 }
 
-/// 4, 5, 6 on the arguments, 11, then 9 for a new prefix at full capacity. Answer: place, n.
-pub fn table_announce(rows: &mut [u32], n: u32, value: u32, length: u32, port: u32) -> Answer<2> {
-    let route = Route::checked(value, length, port, 0);
-    Answer::of(route.and_then(|route| announce(rows, n, route)), [n])
-}
-
-/// 4, 5 on the arguments, 11, then 10 for a prefix that is not held. Answer: place, n.
-pub fn table_withdraw(rows: &mut [u32], n: u32, value: u32, length: u32) -> Answer<2> {
-    let prefix = Prefix::checked(value, length, 0);
-    Answer::of(prefix.and_then(|prefix| withdraw(rows, n, prefix)), [n])
-}
-
 /// The list checks, then 9 for more routes than the capacity. Answer: place, n.
 pub fn table_build(list: &[u32], rows: &mut [u32]) -> Answer<2> {
     Answer::of(routes_of(list).and_then(|routes| build(&routes, rows)), [0])
@@ -184,6 +172,7 @@ fn write_table(table: &Table, rows: &mut [u32]) {
     }
 }
 
+/// Announces into any rows: 11, then 9 for a new prefix at full capacity. Gives n.
 pub(crate) fn announce(rows: &mut [u32], n: u32, route: Route) -> Result<[u32; 1], Refusal> {
     let Table { trie, mut row_of } = in_good_order(rows, n)?;
     let mut routes = routes_without(&trie, route.prefix);
@@ -201,6 +190,7 @@ pub(crate) fn announce(rows: &mut [u32], n: u32, route: Route) -> Result<[u32; 1
     Ok([n + u32::from(is_new)])
 }
 
+/// Withdraws from any rows: 11, then 10 for a prefix that is not held. Gives n.
 pub(crate) fn withdraw(rows: &mut [u32], n: u32, prefix: Prefix) -> Result<[u32; 1], Refusal> {
     let Table { trie: before, mut row_of } = in_good_order(rows, n)?;
     let routes = routes_without(&before, prefix);

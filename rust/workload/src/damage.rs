@@ -1,8 +1,9 @@
-//! Damage to lists, files, rows, images, segment tables and messages, of the kinds that a check could overlook: one thing
-//! made another that could pass for it, parts exchanged, ends cut off.
+//! Damage to lists, files, rows, counts, images, segment tables and messages, of the kinds that a check could overlook:
+//! one thing made another that could pass for it, parts exchanged, ends cut off.
 
 use crate::messages::{prefix_bytes, BYTES_FIRST, LENGTH_AT, TYPE_AT, WITHDRAWN_AT, WITHDRAWN_LENGTH_AT};
 use crate::random::Random;
+use crate::routes::COUNTS;
 use crate::segments::{Stores, LAST_POINTER, PACKED_POINTER, PLAIN_POINTER};
 use crate::segments::{CODEWORDS, OCTET_ENTRIES, PACKED_WORDS};
 use crate::spare::{set_spare_bits, shorten_prefix};
@@ -168,6 +169,41 @@ pub fn damage_rows(rows: &mut [u32], random: &mut Random) {
         4 => flip_bit(rows, random),
         _ => rows[to + word] = random.any_size(),
     }
+}
+
+/// Damages a count by one, in a bit or in whole, moves an address from one to another, so that the total stays,
+/// exchanges two, or cuts them to 4,094 or to fewer. What is added past them, or is another there, does no harm.
+pub fn damage_counts(counts: &mut Vec<u64>, random: &mut Random) {
+    if counts.is_empty() {
+        counts.push(random.any_size().into());
+        return;
+    }
+    let [count, other] = [any_count(counts, random), any_count(counts, random)];
+    match random.below(9) {
+        0 => counts[count] = counts[count].wrapping_add(1),
+        1 => counts[count] = counts[count].wrapping_sub(1),
+        2 => counts[count] ^= 1 << random.below(64),
+        3 => counts[count] = random.any_size().into(),
+        4 => move_address(counts, count, other),
+        5 => counts.swap(count, other),
+        6 => counts.truncate(COUNTS - 1),
+        7 => counts.truncate(random.index(counts.len())),
+        _ => counts.extend((0..=random.below(4)).map(|_| u64::from(random.any_size()))),
+    }
+}
+
+/// One that is not 0, if there is one, the one without a route, the last port's, or any, also past them.
+fn any_count(counts: &[u64], random: &mut Random) -> usize {
+    let any = random.index(counts.len());
+    let last = counts.len().min(COUNTS) - 1;
+    let nonzero: Vec<usize> = (0..=last).filter(|count| counts[*count] != 0).collect();
+    let nonzero = if nonzero.is_empty() { any } else { random.pick(&nonzero) };
+    random.pick(&[nonzero, nonzero, 0, last, any])
+}
+
+fn move_address(counts: &mut [u64], from: usize, to: usize) {
+    counts[from] = counts[from].wrapping_sub(1);
+    counts[to] = counts[to].wrapping_add(1);
 }
 
 /// Damages a bitmap, an offset or a port of an image at this stride, exchanges two nodes, cuts nodes or ports short or

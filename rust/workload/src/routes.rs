@@ -1,4 +1,4 @@
-//! A set of routes, and its words as a list.
+//! A set of routes, its words as a list, and how many counts its table has.
 
 use std::collections::BTreeMap;
 
@@ -6,6 +6,9 @@ use std::collections::BTreeMap;
 pub type Prefix = (u32, u32);
 /// A set of routes: the port of each prefix. Its order is that of a route list.
 pub type Held = BTreeMap<Prefix, u32>;
+
+/// The counts of a table, one for each port 0..4094. What is lent past them belongs to nothing.
+pub const COUNTS: usize = 4095;
 
 pub fn list_of(held: &Held) -> Vec<u32> {
     held.iter().flat_map(|((value, length), port)| [*value, *length, *port]).collect()

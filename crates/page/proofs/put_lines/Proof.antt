@@ -4,7 +4,8 @@ use lib.ListN.{length, getD}
 use native.Mathlib.Omega.{arith}
 use borrow.Author.Needs.{needs}
 use Rattle.lists.specs.Numbered.{listOf}
-use Rattle.page.specs.Page.{linesOf, lineRoom, runAt}
+use Rattle.runs_rules.specs.Runs.{runAt}
+use Rattle.page.specs.Page.{linesOf, lineRoom}
 use Rattle.page.specs.Needs.{Wrote}
 use Rattle.page.proofs.Wrote.{wrote-none}
 use Rattle.page.proofs.Lines.{line-le, wrote-line}

@@ -1,7 +1,7 @@
-//! UPDATE messages: applied to tables of every capacity; damaged, with arguments and tables that are wrong too; noise;
-//! and the message that withdraws a list, written with every room and applied.
+//! UPDATE messages: applied to tables of every capacity; damaged, with arguments, tables and counts that are wrong too;
+//! noise; and the message that withdraws a list, written with every room and applied.
 
-use super::{any_set, rooms, some_damage};
+use super::{any_counts, any_set, rooms, some_damage};
 use crate::checker::{Checker, Compared};
 use workload::messages::{noise_message, BYTES_LAST};
 use workload::{damage_message, damage_rows, list_of, Held, Message, Random};
@@ -11,7 +11,12 @@ const ROUTES_LAST: usize = 4096;
 
 /// The rows of a set with room for so many routes, and some words past the whole rows. What is past the table holds
 /// anything.
-fn rows_of(checker: &mut Checker, random: &mut Random, held: &Held, capacity: usize) -> Compared<(Vec<u32>, u32)> {
+pub(super) fn rows_of(
+    checker: &mut Checker,
+    random: &mut Random,
+    held: &Held,
+    capacity: usize,
+) -> Compared<(Vec<u32>, u32)> {
     let (built, mut rows) = checker.table_build(&list_of(held), 5 * held.len())?;
     rows.resize_with(5 * capacity.max(held.len()) + random.index(5), || random.any_size());
     Ok((rows, built.answer[1]))
@@ -37,19 +42,22 @@ pub fn valid_messages(checker: &mut Checker, random: &mut Random, most: usize) -
         // Where there are fewer rows than routes held, the table is not in good order.
         let capacity = room.max(held.len());
         let (mut rows, n) = rows_of(checker, random, &held, capacity)?;
-        let answer = checker.message_apply(&message.bytes(), port, &mut rows, n)?;
+        let mut counts = checker.counts_of(&rows, n)?;
+        let answer = checker.counted_message(&message.bytes(), port, &mut rows, n, &mut counts)?;
         let expected = if after.len() > capacity.min(ROUTES_LAST) { &held } else { &after };
         checker.table_holds(&rows, answer.answer[1], expected)?;
+        checker.counts_kept(&rows, answer.answer[1], &counts)?;
     }
     Ok(())
 }
 
-/// Mostly damage to a message, and often a port, a table or an n that is wrong, with it or without.
+/// Mostly damage to a message, and often a port, a table, an n or counts that are wrong, with it or without.
 pub fn damaged_messages(checker: &mut Checker, random: &mut Random, most: usize) -> Compared<()> {
     let held = any_set(random, most);
     let most_prefixes = prefixes_last(random, &held);
     let (any, nothing) = (Message::any(random, &held, most_prefixes), Message::default());
     let (rows, n) = rows_of(checker, random, &held, held.len() + 2)?;
+    let (right, none_held) = (checker.counts_of(&rows, n)?, checker.counts_of(&[], 0)?);
     for _ in 0..8 {
         let mut message = random.pick(&[&any, &any, &any, &nothing]).bytes();
         let mut rows = rows.clone();
@@ -61,7 +69,7 @@ pub fn damaged_messages(checker: &mut Checker, random: &mut Random, most: usize)
         }
         let n = random.pick(&[n, n, n, n, n + 1, 0, 4097, u32::MAX]);
         let port = random.pick(&[1, 1, 4094, 0, 4095, 1 << 16, u32::MAX]);
-        checker.message_apply(&message, port, &mut rows, n)?;
+        checker.counted_message(&message, port, &mut rows, n, &mut any_counts(random, &right, &none_held))?;
     }
     Ok(())
 }
@@ -73,7 +81,8 @@ pub fn noise_messages(checker: &mut Checker, random: &mut Random, most: usize) -
         let message = noise_message(random, 12);
         let capacity = held.len() + random.index(6);
         let (mut rows, n) = rows_of(checker, random, &held, capacity)?;
-        checker.message_apply(&message, random.port(), &mut rows, n)?;
+        let mut counts = checker.counts_of(&rows, n)?;
+        checker.counted_message(&message, random.port(), &mut rows, n, &mut counts)?;
     }
     Ok(())
 }
@@ -96,7 +105,8 @@ pub fn written_messages(checker: &mut Checker, random: &mut Random, most: usize)
     others.extend(held.iter().filter(|_| random.below(8) == 0));
     for held in [&held, &others] {
         let (mut rows, n) = rows_of(checker, random, held, held.len())?;
-        let answer = checker.message_apply(&message, 1, &mut rows, n)?;
+        let mut counts = checker.counts_of(&rows, n)?;
+        let answer = checker.counted_message(&message, 1, &mut rows, n, &mut counts)?;
         checker.table_holds(&rows, answer.answer[1], &expected.applied_to(held, 1))?;
     }
     Ok(())

@@ -1,5 +1,6 @@
 //! What is fed to the two libraries: each scenario draws its inputs from the random numbers given, so a seed names it.
 
+mod counts;
 mod files;
 mod histories;
 mod images;
@@ -8,6 +9,7 @@ mod messages;
 mod segments;
 mod tables;
 
+pub use counts::{damaged_counts, valid_counts};
 pub use files::{damaged_files, noise_files, spared_files, valid_files};
 pub use histories::{history, message_history};
 pub use images::{damaged_images, valid_images};
@@ -17,13 +19,13 @@ pub use segments::{damaged_segments, noise_segments, valid_segments};
 pub use tables::{damaged_tables, valid_tables, wrong_arguments};
 
 use crate::checker::{Checker, Compared};
-use workload::{Held, Kind, Random};
+use workload::{damage_counts, Held, Kind, Random};
 
 /// A scenario on sets of at most that many routes.
 pub type Scenario = fn(&mut Checker, &mut Random, usize) -> Compared<()>;
 
 /// Every scenario, with its name.
-pub const ALL: [(&str, Scenario); 20] = [
+pub const ALL: [(&str, Scenario); 22] = [
     ("valid files", valid_files),
     ("spared files", spared_files),
     ("damaged files", damaged_files),
@@ -42,6 +44,8 @@ pub const ALL: [(&str, Scenario); 20] = [
     ("damaged messages", damaged_messages),
     ("noise messages", noise_messages),
     ("written messages", written_messages),
+    ("valid counts", valid_counts),
+    ("damaged counts", damaged_counts),
     ("history", |checker, random, most| history(checker, random, 1 + most / 2, 40)),
     ("message history", |checker, random, most| message_history(checker, random, 1 + most / 2, 10)),
 ];
@@ -80,4 +84,13 @@ fn rooms(exact: usize) -> [usize; 4] {
 /// Damages once, twice or three times.
 fn some_damage(random: &mut Random, mut damage: impl FnMut(&mut Random)) {
     (0..=random.below(3)).for_each(|_| damage(random));
+}
+
+/// Counts that are right, or those of another table, and now and then damaged.
+fn any_counts(random: &mut Random, right: &[u64], other: &[u64]) -> Vec<u64> {
+    let mut counts = random.pick(&[right, right, right, other]).to_vec();
+    if random.below(3) == 0 {
+        some_damage(random, |random| damage_counts(&mut counts, random));
+    }
+    counts
 }

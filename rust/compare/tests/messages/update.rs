@@ -2,7 +2,7 @@
 
 use reference::Answer;
 use std::collections::BTreeSet;
-use workload::{first_bits_of, Prefix};
+use workload::{first_bits_of, Prefix, COUNTS};
 
 /// What a message says, in its order.
 pub struct Update {
@@ -84,20 +84,30 @@ pub const RIGHT: Apply = Apply {
 };
 
 impl Apply {
-    pub fn apply(&self, message: &[u8], port: u32, rows: &mut [u32], n: u32) -> Answer<2> {
-        match self.applied(message, port, rows, n) {
+    pub fn apply(&self, message: &[u8], port: u32, rows: &mut [u32], n: u32, counts: &mut [u64]) -> Answer<2> {
+        match self.applied(message, port, rows, n, counts) {
             Ok(n) => Answer { number: 0, answer: [0, n] },
             Err((number, place)) => Answer { number, answer: [place as u32, n] },
         }
     }
 
-    fn applied(&self, message: &[u8], port: u32, rows: &mut [u32], mut n: u32) -> Result<u32, Refusal> {
+    fn applied(
+        &self,
+        message: &[u8],
+        port: u32,
+        rows: &mut [u32],
+        mut n: u32,
+        counts: &mut [u64],
+    ) -> Result<u32, Refusal> {
+        if counts.len() < COUNTS {
+            return Err((9, 0));
+        }
         let mut update = self.read(message)?;
         (self.change)(&mut update);
         if (self.looks_at_port)(&update) && !(1..=4094).contains(&port) {
             return Err((6, 0));
         }
-        if (self.looks_at_table)(&update) && reference::table_check(rows, n).number != 0 {
+        if (self.looks_at_table)(&update) && !in_step(rows, n, counts) {
             return Err((11, 0));
         }
         if !(self.fits)((self.count)(&held_in(rows, n), &update), 4096.min(rows.len() / 5)) {
@@ -106,10 +116,10 @@ impl Apply {
         for call in (self.calls)(&update) {
             let answer = match call {
                 Call::Withdraw((value, length)) => {
-                    reference::table_withdraw(rows, n, first_bits_of(value, length), length)
+                    reference::counted_withdraw(rows, n, first_bits_of(value, length), length, counts)
                 }
                 Call::Announce((value, length)) => {
-                    reference::table_announce(rows, n, first_bits_of(value, length), length, port)
+                    reference::counted_announce(rows, n, first_bits_of(value, length), length, port, counts)
                 }
             };
             if answer.number != 0 && (self.ends_at)(answer.number) {
@@ -170,6 +180,12 @@ impl Apply {
 fn length_at(message: &[u8], at: usize) -> usize {
     let byte = |at: usize| message.get(at).copied().map_or(0, usize::from);
     256 * byte(at) + byte(at + 1)
+}
+
+/// Whether the table is in good order, and the counts are its own.
+fn in_step(rows: &[u32], n: u32, counts: &[u64]) -> bool {
+    let mut made = [0; COUNTS];
+    reference::counts_make(rows, n, &mut made).number == 0 && counts[..COUNTS] == made
 }
 
 /// None where the table is not in good order.

@@ -23,6 +23,8 @@ const FILE: [u8; 9] = [1, 0, 0, 0, 4, 8, 10, 0, 7];
 /// The message that withdraws it.
 const MESSAGE: [u8; 25] =
     [255, 255, 255, 255, 255, 255, 255, 255, 255, 255, 255, 255, 255, 255, 255, 255, 0, 25, 2, 0, 2, 8, 10, 0, 0];
+/// The counts that a table has.
+const COUNTS: usize = 4095;
 /// 10.0.0.0/17 to port 7, which makes a segment.
 const LIST_OF_17_BITS: [u32; 3] = [10 << 24, 17, 7];
 
@@ -59,17 +61,10 @@ fn calls_on_tables_write_their_answer_alone() {
         assert_answers(11, [0, 0, 0], |answer| mft_table_lookup(row, 5, 2, 10 << 24, answer));
         assert_answers(0, [0, 1], |answer| mft_table_build(list, 3, words, 5, answer));
         assert_answers(9, [0, 0], |answer| mft_table_build(list, 3, words, 4, answer));
-        assert_answers(0, [0, 1], |answer| mft_table_announce(words, 5, 1, 10 << 24, 8, 9, answer));
-        assert_answers(6, [0, 1], |answer| mft_table_announce(words, 5, 1, 10 << 24, 8, 0, answer));
-        assert_answers(10, [0, 1], |answer| mft_table_withdraw(words, 5, 1, 0, 0, answer));
         assert_answers(0, [0, 1], |answer| mft_table_save(row, 5, 1, words, 3, answer));
         assert_answers(9, [0, 0], |answer| mft_table_save(row, 5, 1, words, 2, answer));
         assert_answers(0, [0, 3], |answer| mft_table_runs(row, 5, 1, words, 9, answer));
         assert_answers(9, [0, 0], |answer| mft_table_runs(row, 5, 1, words, 8, answer));
-        assert_answers(0, [0, 0], |answer| {
-            mft_table_build(list, 3, words, 5, answer);
-            mft_table_withdraw(words, 5, 1, 10 << 24, 8, answer)
-        });
     }
 }
 
@@ -120,23 +115,63 @@ fn calls_on_segment_tables_write_their_answer_alone() {
 }
 
 #[test]
-fn calls_on_messages_write_their_answer_alone() {
-    let (list, message) = (LIST.as_ptr(), MESSAGE.as_ptr());
+fn the_call_that_writes_a_message_writes_its_answer_alone() {
+    let list = LIST.as_ptr();
     let mut bytes = [0; 30];
     let bytes = bytes.as_mut_ptr();
     // SAFETY: every pointer is valid for the size that goes with it, and `answer` overlaps none of them.
     unsafe {
-        let apply = |size, port, n, answer| {
-            let mut rows = ROW;
-            mft_message_apply(message, size, port, rows.as_mut_ptr(), 5, n, answer)
-        };
-        assert_answers(0, [0, 0], |answer| apply(25, 7, 1, answer));
-        assert_answers(14, [0, 1], |answer| apply(22, 7, 1, answer));
-        assert_answers(14, [16, 1], |answer| apply(24, 7, 1, answer));
-        assert_answers(6, [0, 1], |answer| apply(25, 0, 1, answer));
-        assert_answers(11, [0, 2], |answer| apply(25, 7, 2, answer));
         assert_answers(0, [0, 25], |answer| mft_message_write(list, 3, bytes, 30, answer));
         assert_answers(9, [0, 0], |answer| mft_message_write(list, 3, bytes, 24, answer));
         assert_answers(3, [0, 0], |answer| mft_message_write(list, 2, bytes, 30, answer));
+    }
+}
+
+/// The row of the one route, and its counts.
+fn table() -> ([u32; 5], [u64; COUNTS]) {
+    let mut counts = [0; COUNTS];
+    counts[0] = (1 << 32) - (1 << 24);
+    counts[7] = 1 << 24;
+    (ROW, counts)
+}
+
+#[test]
+fn calls_on_counts_write_their_answer_alone() {
+    let (row, message) = (ROW.as_ptr(), MESSAGE.as_ptr());
+    // SAFETY: every pointer is valid for the size that goes with it, and `answer` overlaps none of them.
+    unsafe {
+        let make = |n, room, answer| mft_counts_make(row, 5, n, table().1.as_mut_ptr(), room, answer);
+        assert_answers(0, [0], |answer| make(1, COUNTS, answer));
+        assert_answers(9, [0], |answer| make(1, COUNTS - 1, answer));
+        assert_answers(11, [0], |answer| make(2, COUNTS, answer));
+        let announce = |n, port, room, answer| {
+            let (mut rows, mut counts) = table();
+            let (rows, counts) = (rows.as_mut_ptr(), counts.as_mut_ptr());
+            mft_counted_announce(rows, 5, n, 10 << 24, 8, port, counts, room, answer)
+        };
+        assert_answers(0, [0, 1], |answer| announce(1, 9, COUNTS, answer));
+        assert_answers(9, [0, 1], |answer| announce(1, 9, COUNTS - 1, answer));
+        assert_answers(6, [0, 1], |answer| announce(1, 0, COUNTS, answer));
+        assert_answers(11, [0, 2], |answer| announce(2, 9, COUNTS, answer));
+        let withdraw = |n, length, room, answer| {
+            let (mut rows, mut counts) = table();
+            let (rows, counts) = (rows.as_mut_ptr(), counts.as_mut_ptr());
+            mft_counted_withdraw(rows, 5, n, 10 << 24, length, counts, room, answer)
+        };
+        assert_answers(0, [0, 0], |answer| withdraw(1, 8, COUNTS, answer));
+        assert_answers(9, [0, 1], |answer| withdraw(1, 8, COUNTS - 1, answer));
+        assert_answers(10, [0, 1], |answer| withdraw(1, 9, COUNTS, answer));
+        assert_answers(11, [0, 0], |answer| withdraw(0, 8, COUNTS, answer));
+        let apply = |size, port, n, room, answer| {
+            let (mut rows, mut counts) = table();
+            let (rows, counts) = (rows.as_mut_ptr(), counts.as_mut_ptr());
+            mft_counted_message(message, size, port, rows, 5, n, counts, room, answer)
+        };
+        assert_answers(0, [0, 0], |answer| apply(25, 7, 1, COUNTS, answer));
+        assert_answers(9, [0, 1], |answer| apply(25, 7, 1, COUNTS - 1, answer));
+        assert_answers(14, [0, 1], |answer| apply(22, 7, 1, COUNTS, answer));
+        assert_answers(14, [16, 1], |answer| apply(24, 7, 1, COUNTS, answer));
+        assert_answers(6, [0, 1], |answer| apply(25, 0, 1, COUNTS, answer));
+        assert_answers(11, [0, 2], |answer| apply(25, 7, 2, COUNTS, answer));
     }
 }

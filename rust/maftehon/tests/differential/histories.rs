@@ -1,4 +1,4 @@
-//! Histories of announcements and withdrawals, all rows compared after each call.
+//! Histories of announcements and withdrawals, all rows and counts compared after each call.
 
 use compare::{on_seeds, scenarios};
 
@@ -25,5 +25,5 @@ fn long_histories_at_middle_capacity_agree() {
 
 #[test]
 fn histories_at_full_capacity_agree() {
-    on_seeds(6, |checker, random| scenarios::history(checker, random, 4096, 1500));
+    on_seeds(6, |checker, random| scenarios::history(checker, random, 4096, 600));
 }

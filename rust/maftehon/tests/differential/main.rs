@@ -3,6 +3,7 @@
 //! A failure prints its seed, and `MAFTEHON_SEED` sets the first one.
 
 mod answers;
+mod counts;
 mod files;
 mod histories;
 mod images;

@@ -1,6 +1,7 @@
 //! Applying UPDATE messages to tables, and writing the message that withdraws a list.
 
-use compare::{on_seeds, scenarios, Checker, Compared, PROVED};
+use compare::{on_seeds, scenarios, Checker, Compared};
+use reference::Answer;
 use std::collections::BTreeSet;
 use workload::messages::{captured, noise_message, Sent, BYTES_FIRST, BYTES_LAST};
 use workload::{damage_rows, full_length_list, list_of, Held, Kind, Message, Prefix, Random};
@@ -23,6 +24,20 @@ fn rows_of(checker: &mut Checker, held: &Held, capacity: usize) -> Compared<(Vec
     Ok((rows, built.answer[1]))
 }
 
+/// Applies a message to a table with its counts. They are then those of the table that is left, and as they were on a
+/// refusal.
+fn apply(checker: &mut Checker, message: &[u8], port: u32, rows: &mut [u32], n: u32) -> Compared<Answer<2>> {
+    let before = checker.counts_of(rows, n)?;
+    let mut counts = before.clone();
+    let answer = checker.counted_message(message, port, rows, n, &mut counts)?;
+    if answer.number == 0 {
+        checker.counts_kept(rows, answer.answer[1], &counts)?;
+    } else {
+        assert!(counts == before, "refused {answer:?}, {message:02X?}");
+    }
+    Ok(answer)
+}
+
 /// Refused with this number and place: n is as it was, and so is every word of the rows.
 fn assert_refused(
     checker: &mut Checker,
@@ -31,7 +46,7 @@ fn assert_refused(
     refusal: (u32, u32),
 ) -> Compared<()> {
     let mut left = rows.to_vec();
-    let answer = checker.message_apply(message, port, &mut left, n)?;
+    let answer = apply(checker, message, port, &mut left, n)?;
     assert_eq!((answer.number, answer.answer), (refusal.0, [refusal.1, n]), "port {port}, n {n}, {message:02X?}");
     assert_eq!(left, rows, "port {port}, n {n}, {message:02X?}");
     Ok(())
@@ -45,7 +60,7 @@ fn assert_done(
     expected: &Held,
 ) -> Compared<()> {
     let mut left = rows.to_vec();
-    let answer = checker.message_apply(message, port, &mut left, n)?;
+    let answer = apply(checker, message, port, &mut left, n)?;
     assert_eq!((answer.number, answer.answer), (0, [0, expected.len() as u32]), "port {port}, {message:02X?}");
     checker.table_holds(&left, answer.answer[1], expected)
 }
@@ -72,7 +87,7 @@ fn noise_is_treated_alike() {
     on_seeds(8000, |checker, random| scenarios::noise_messages(checker, random, 12));
     on_seeds(200, |checker, random| {
         let message = noise_message(random, BYTES_LAST + 30 - BYTES_FIRST);
-        checker.message_apply(&message, 1, &mut [ANY_WORD; 5 * 300], 0)?;
+        apply(checker, &message, 1, &mut [ANY_WORD; 5 * 300], 0)?;
         Ok(())
     });
 }
@@ -115,7 +130,7 @@ fn a_message_is_refused_alike_at_every_shorter_and_longer_length() {
             if size >= BYTES_FIRST {
                 cut[16..18].copy_from_slice(&(size as u16).to_be_bytes());
             }
-            checker.message_apply(&cut, 9, &mut rows.clone(), n)?;
+            apply(checker, &cut, 9, &mut rows.clone(), n)?;
         }
         for more in 1..6 {
             assert_refused(checker, (&[&message[..], &vec![0; more]].concat(), 9), (&rows, n), (14, 16))?;
@@ -133,7 +148,7 @@ fn apply_with_every_byte_changed(checker: &mut Checker, message: &[u8], rows: &[
             let mut changed = message.to_vec();
             changed[at] = byte;
             let mut left = rows.to_vec();
-            let answer = checker.message_apply(&changed, 9, &mut left, n)?;
+            let answer = apply(checker, &changed, 9, &mut left, n)?;
             let kept = left == rows && answer.answer[1] == n;
             assert!(answer.number == 0 || kept, "{byte} at {at} of {message:02X?}");
             assert!(at > 18 || byte == message[at] || answer.number == 14, "{byte} at {at} of {message:02X?}");
@@ -185,7 +200,7 @@ fn lengths_that_are_one_off_are_refused_at_their_own_offset_or_move_a_part() {
         }
         // The announced part begins with the last attribute, which is 8; is without its first prefix; is empty.
         for length in [6, 8, 21] {
-            checker.message_apply(&with(withdrawn_end, length), 9, &mut rows.clone(), n)?;
+            apply(checker, &with(withdrawn_end, length), 9, &mut rows.clone(), n)?;
         }
         Ok(())
     });
@@ -213,16 +228,16 @@ fn messages_of_4096_bytes_are_applied_and_of_4097_refused() {
         let announcing = Message { announced: of_24_bits.clone(), ..Message::default() };
         assert_eq!(announcing.bytes().len(), 4096);
         let mut rows = vec![ANY_WORD; 5 * 1019];
-        let answer = checker.message_apply(&announcing.bytes(), 9, &mut rows, 0)?;
+        let answer = apply(checker, &announcing.bytes(), 9, &mut rows, 0)?;
         assert_eq!((answer.number, answer.answer), (0, [0, 1019]));
         let withdrawing = Message { withdrawn: of_24_bits, ..Message::default() };
-        let answer = checker.message_apply(&withdrawing.bytes(), 9, &mut rows, 1019)?;
+        let answer = apply(checker, &withdrawing.bytes(), 9, &mut rows, 1019)?;
         assert_eq!((answer.number, answer.answer, rows), (0, [0, 0], vec![0; 5 * 1019]));
         // As many prefixes as there can be: the whole space, again and again.
         let again = Message { announced: vec![(0, 0); 4073], ..Message::default() };
         assert_eq!(again.bytes().len(), 4096);
         let mut row = vec![ANY_WORD; 5];
-        let answer = checker.message_apply(&again.bytes(), 9, &mut row, 0)?;
+        let answer = apply(checker, &again.bytes(), 9, &mut row, 0)?;
         assert_eq!((answer.number, answer.answer, row), (0, [0, 1], vec![0, 0, 9, 0, 0]));
         Ok(())
     });
@@ -253,7 +268,7 @@ fn an_end_of_rib_changes_nothing() {
             let held = Kind::InternetLike.routes(random, count);
             let (mut rows, n) = rows_of(checker, &held, count)?;
             let before = rows.clone();
-            let answer = checker.message_apply(&message, 1, &mut rows, n)?;
+            let answer = apply(checker, &message, 1, &mut rows, n)?;
             assert_eq!((answer.number, answer.answer, rows == before), (0, [0, n], true), "{count} routes");
         }
         Ok(())
@@ -273,7 +288,7 @@ fn a_port_is_looked_at_also_where_nothing_is_announced_and_before_the_table() {
                 }
             }
             for port in [1, 4094] {
-                assert_eq!(checker.message_apply(&message.bytes(), port, &mut rows.clone(), n)?.number, 0);
+                assert_eq!(apply(checker, &message.bytes(), port, &mut rows.clone(), n)?.number, 0);
             }
         }
         Ok(())
@@ -300,7 +315,7 @@ fn tables_that_are_not_in_good_order_are_refused_11_before_9() {
         if checker.table_check(&rows, n)?.number == 11 {
             assert_refused(checker, (&message, 9), (&rows, n), (11, 0))?;
         }
-        checker.message_apply(&message, 9, &mut rows, n)?;
+        apply(checker, &message, 9, &mut rows, n)?;
         Ok(())
     });
 }
@@ -429,7 +444,7 @@ fn the_messages_of_two_daemons_are_applied_in_order() {
         for Sent { daemon, messages } in captured() {
             let (mut rows, mut n) = (vec![ANY_WORD; 5 * 6], 0);
             for (number, (message, expected)) in messages.iter().enumerate() {
-                let answer = checker.message_apply(message, 9, &mut rows, n)?;
+                let answer = apply(checker, message, 9, &mut rows, n)?;
                 assert_eq!(answer.answer, [0, expected.len() as u32], "{daemon}, message {number}");
                 n = answer.answer[1];
                 checker.table_holds(&rows, n, &routes_of(expected, 9))?;
@@ -457,22 +472,6 @@ fn the_messages_of_two_daemons_cut_and_with_a_byte_changed_are_treated_alike() {
         }
         Ok(())
     });
-}
-
-/// The header says that the call takes at most 100 KB of stack; a thread has some of its own.
-#[test]
-fn a_thread_with_128_kilobytes_of_stack_applies_the_longest_message() {
-    let of_24_bits = (0..1018).map(|value| (value << 8, 24)).collect();
-    let message = Message { announced: of_24_bits, ..Message::default() }.bytes();
-    let apply = move || {
-        let mut rows = vec![0; 5 * 1018];
-        (PROVED.message_apply)(&message, 9, &mut rows, 0)
-    };
-    // Where the stack is too short, all the tests end, with the name of the thread.
-    let thread = std::thread::Builder::new().name("message_apply on 128 KB of stack".into()).stack_size(128 << 10);
-    let thread = thread.spawn(apply).expect("a thread can be had");
-    let answer = thread.join().expect("the call ends");
-    assert_eq!((answer.number, answer.answer), (0, [0, 1018]));
 }
 
 #[test]
@@ -533,7 +532,7 @@ fn the_message_of_the_longest_list_applied_to_its_table_leaves_none() {
         let held = list_of_message(random, BYTES_LAST);
         let (_, message) = checker.message_write(&list_of(&held), BYTES_LAST)?;
         let (mut rows, n) = rows_of(checker, &held, held.len())?;
-        let answer = checker.message_apply(&message, 1, &mut rows, n)?;
+        let answer = apply(checker, &message, 1, &mut rows, n)?;
         assert_eq!((answer.number, answer.answer), (0, [0, 0]));
         let (table, past) = rows.split_at(5 * held.len());
         assert!(table.iter().all(|word| *word == 0) && past.iter().all(|word| *word == ANY_WORD));

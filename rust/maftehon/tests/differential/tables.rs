@@ -1,4 +1,4 @@
-//! Building, checking, looking up, saving and listing tables.
+//! Building, checking, looking up, saving, listing and counting tables.
 
 use compare::{on_seeds, scenarios};
 
@@ -34,8 +34,9 @@ fn more_rows_than_4096_are_no_more_capacity() {
         let (built, mut rows) = checker.table_build(&workload::full_length_list(4096), 5 * 4100)?;
         let n = built.answer[1];
         assert_eq!(n, 4096);
-        assert_eq!(checker.table_announce(&mut rows, n, [5000, 32, 1])?.number, 9);
-        assert_eq!(checker.table_announce(&mut rows, n, [4095, 32, 2])?.number, 0);
+        let mut counts = checker.counts_of(&rows, n)?;
+        assert_eq!(checker.counted_announce(&mut rows, n, [5000, 32, 1], &mut counts)?.number, 9);
+        assert_eq!(checker.counted_announce(&mut rows, n, [4095, 32, 2], &mut counts)?.number, 0);
         assert_eq!(checker.table_check(&rows, 4097)?.number, 11);
         Ok(())
     });

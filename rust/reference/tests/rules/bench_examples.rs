@@ -1,7 +1,7 @@
 //! Rules, "Bench examples": examples 1 to 12, typed from the rules.
 
-use crate::support::{address, done, image_of, list_of_bits, prefix, UNTOUCHED};
-use reference::{image_lookup, list_runs, table_check, table_lookup, table_withdraw};
+use crate::support::{address, done, image_of, list_of_bits, prefix, withdraw, UNTOUCHED};
+use reference::{image_lookup, list_runs, table_check, table_lookup};
 
 /// Source document 004, Table I. Row r has port r+1.
 fn table_1() -> Vec<u32> {
@@ -67,7 +67,7 @@ fn example_7_1111_is_row_9_with_5_read() {
 fn example_8_withdrawing_100110_refills_from_below() {
     let mut rows = table_1();
     let (value, length) = prefix("100110");
-    assert_eq!(table_withdraw(&mut rows, 10, value, length), done([0, 9]));
+    assert_eq!(withdraw(&mut rows, 10, value, length), done([0, 9]));
     let routes = ["10010", "00", "10011", "01", "1000", "11", "1111", "101", "1110"];
     let ports = [3, 2, 5, 4, 7, 6, 10, 8, 9];
     let children = [(1, 2), (0, 3), (4, 5), (0, 0), (0, 7), (0, 8), (0, 0), (0, 0), (0, 6)];

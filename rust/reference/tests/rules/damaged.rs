@@ -1,9 +1,10 @@
 //! Damaged rows, images and segment tables: good order against a second check, and lookups that end in their bounds.
 
 use crate::support::{
-    agree, first_bits_of, image_of, list_of, look_up_segments, segments_of, table_of, Random, STRIDES,
+    agree, announce, first_bits_of, image_of, list_of, look_up_segments, segments_of, table_of, withdraw, Random,
+    STRIDES,
 };
-use reference::{image_lookup, table_announce, table_check, table_lookup, table_withdraw};
+use reference::{image_lookup, table_check, table_lookup};
 use std::cmp::Reverse;
 use workload::segments::noise_stores;
 use workload::{damage_image, damage_rows, damage_segments};
@@ -87,9 +88,9 @@ fn updates_of_a_damaged_table_are_refused_11_and_write_nothing() {
             continue;
         }
         let mut after = rows.clone();
-        let announced = table_announce(&mut after, n, 0, 0, 1);
+        let announced = announce(&mut after, n, 0, 0, 1);
         assert_eq!((announced.number, announced.answer), (11, [0, n]), "seed {seed}");
-        let withdrawn = table_withdraw(&mut after, n, 0, 0);
+        let withdrawn = withdraw(&mut after, n, 0, 0);
         assert_eq!((withdrawn.number, withdrawn.answer), (11, [0, n]), "seed {seed}");
         assert_eq!(after, rows, "seed {seed}");
     }

@@ -1,7 +1,7 @@
 //! Rules, "Faults we have seen on a bench": each named mistake would fail here.
 
-use crate::support::{address, done, list_of_bits, prefix, table_of, UNTOUCHED, UNTOUCHED_PORT};
-use reference::{image_build, image_lookup, list_runs, table_lookup, table_withdraw};
+use crate::support::{address, done, list_of_bits, prefix, table_of, withdraw, UNTOUCHED, UNTOUCHED_PORT};
+use reference::{image_build, image_lookup, list_runs, table_lookup};
 
 #[test]
 fn an_ordinary_match_does_not_end_the_lookup() {
@@ -15,7 +15,7 @@ fn an_ordinary_match_does_not_end_the_lookup() {
 fn a_withdrawn_place_takes_the_longest_from_below_and_not_its_childs_route() {
     let (mut rows, n) = table_of(&list_of_bits(&["", "0", "0110"]));
     let (value, length) = prefix("");
-    assert_eq!(table_withdraw(&mut rows, n, value, length), done([0, 2]));
+    assert_eq!(withdraw(&mut rows, n, value, length), done([0, 2]));
     let root = prefix("0110");
     assert_eq!(rows[..5], [root.0, root.1, 3, 1, 0]);
     let child = prefix("0");

@@ -1,9 +1,9 @@
 //! Rules, "Also run", and the round trips of the route file.
 
 use crate::support::{
-    done, first_bits_of, full_length_list, list_of, prefix, refused, Random, UNTOUCHED, UNTOUCHED_BYTE,
+    announce, done, first_bits_of, full_length_list, list_of, prefix, refused, Random, UNTOUCHED, UNTOUCHED_BYTE,
 };
-use reference::{file_read, file_write, list_check, table_announce, table_build, table_runs};
+use reference::{file_read, file_write, list_check, table_build, table_runs};
 use workload::clear_spare_bits;
 
 /// A file whose stated size is that of its body.
@@ -40,14 +40,14 @@ pub fn written(list: &[u32]) -> Vec<u8> {
 fn length_32_is_accepted() {
     assert_eq!(list_check(&[7, 32, 1]), done([0]));
     assert_eq!(read(&file_with(&[32, 1, 2, 3, 4, 0, 1])), [0x0102_0304, 32, 1]);
-    assert_eq!(table_announce(&mut [UNTOUCHED; 5], 0, 7, 32, 1), done([0, 1]));
+    assert_eq!(announce(&mut [UNTOUCHED; 5], 0, 7, 32, 1), done([0, 1]));
 }
 
 #[test]
 fn length_33_is_refused_4() {
     assert_eq!(list_check(&[0, 33, 1]), refused(4, [0]));
     assert_eq!(file_read(&file_with(&[33, 0, 0, 0, 0, 0, 0, 1]), &mut [0; 3]), refused(4, [5, 0]));
-    assert_eq!(table_announce(&mut [UNTOUCHED; 5], 0, 0, 33, 1), refused(4, [0, 0]));
+    assert_eq!(announce(&mut [UNTOUCHED; 5], 0, 0, 33, 1), refused(4, [0, 0]));
 }
 
 #[test]
@@ -55,14 +55,14 @@ fn ports_1_and_4094_are_accepted() {
     assert_eq!(list_check(&[0, 0, 1]), done([0]));
     assert_eq!(list_check(&[0, 0, 4094]), done([0]));
     assert_eq!(read(&file_with(&[0, 0x0F, 0xFE])), [0, 0, 4094]);
-    assert_eq!(table_announce(&mut [UNTOUCHED; 5], 0, 0, 0, 4094), done([0, 1]));
+    assert_eq!(announce(&mut [UNTOUCHED; 5], 0, 0, 0, 4094), done([0, 1]));
 }
 
 #[test]
 fn ports_0_and_4095_are_refused_6() {
     for port in [0, 4095] {
         assert_eq!(list_check(&[0, 0, port]), refused(6, [0]));
-        assert_eq!(table_announce(&mut [UNTOUCHED; 5], 0, 0, 0, port), refused(6, [0, 0]));
+        assert_eq!(announce(&mut [UNTOUCHED; 5], 0, 0, 0, port), refused(6, [0, 0]));
     }
     assert_eq!(file_read(&file_with(&[0, 0x00, 0x00]), &mut [0; 3]), refused(6, [5, 0]));
     assert_eq!(file_read(&file_with(&[0, 0x0F, 0xFF]), &mut [0; 3]), refused(6, [5, 0]));

@@ -1,6 +1,7 @@
 //! The reference against the rules: their examples word for word, every refusal, the faults they name, random runs.
 
 mod bench_examples;
+mod counts;
 mod damaged;
 mod faults;
 mod leaf_bases;
@@ -9,6 +10,7 @@ mod messages;
 mod prefixes;
 mod random_lists;
 mod random_segments;
+mod refusals_of_counts;
 mod refusals_of_image;
 mod refusals_of_list_and_file;
 mod refusals_of_messages;

@@ -1,9 +1,9 @@
 //! Rules, "UPDATE messages": messages typed as bytes, those of two daemons, random ones against the routes that they
 //! leave and against their calls one by one, and the message that withdraws a list.
 
-use crate::support::{done, first_bits_of, full_length_list, list_of, refused, table_of};
+use crate::support::{announce, apply, done, first_bits_of, full_length_list, list_of, refused, table_of, withdraw};
 use crate::support::{Held, Prefix, Random, UNTOUCHED, UNTOUCHED_BYTE};
-use reference::{message_apply, message_write, table_announce, table_check, table_save, table_withdraw};
+use reference::{message_write, table_check, table_save};
 use workload::messages::{captured, BYTES_LAST};
 use workload::Message;
 
@@ -37,7 +37,7 @@ fn saved(rows: &[u32], n: u32) -> Vec<u32> {
 fn assert_leaves(list: &[u32], message: &[u8], expected: &[u32]) {
     let (mut rows, n) = rows_of(list, list.len().max(expected.len()) / 3);
     let after = expected.len() as u32 / 3;
-    assert_eq!(message_apply(message, 9, &mut rows, n), done([0, after]), "{message:02X?}");
+    assert_eq!(apply(message, 9, &mut rows, n), done([0, after]), "{message:02X?}");
     assert_eq!(saved(&rows, after), expected, "{message:02X?}");
     assert_eq!(rows[rows.len() - 2..], [UNTOUCHED; 2]);
 }
@@ -58,7 +58,7 @@ fn a_message_typed_byte_by_byte_is_applied() {
     assert_eq!(message.len(), 0x24);
     assert_leaves(&[10 << 24, 8, 7], &message, &[0x0A01_0000, 16, 9, 0x0A01_0200, 23, 9]);
     let (mut rows, n) = rows_of(&[10 << 24, 8, 7], 3);
-    assert_eq!(message_apply(&message, 9, &mut rows, n), done([0, 2]));
+    assert_eq!(apply(&message, 9, &mut rows, n), done([0, 2]));
     // The row that was freed is used again, for the first announced prefix, which sinks below the longer second one.
     assert_eq!(rows[..5], [0x0A01_0200, 23, 9, 1, 0]);
     assert_eq!(rows[5..10], [0x0A01_0000, 16, 9, 0, 0]);
@@ -72,10 +72,10 @@ fn a_message_of_23_bytes_changes_nothing() {
     for list in [&[][..], &[10 << 24, 8, 7], &full_length_list(4096)] {
         let (mut rows, n) = rows_of(list, list.len() / 3);
         let before = rows.clone();
-        assert_eq!(message_apply(&end_of_rib, 9, &mut rows, n), done([0, n]));
+        assert_eq!(apply(&end_of_rib, 9, &mut rows, n), done([0, n]));
         assert_eq!(rows, before);
     }
-    assert_eq!(message_apply(&end_of_rib, 9, &mut [], 0), done([0, 0]));
+    assert_eq!(apply(&end_of_rib, 9, &mut [], 0), done([0, 0]));
 }
 
 #[test]
@@ -99,7 +99,7 @@ fn a_prefix_in_both_parts_is_announced_only() {
         expected[5 * row + 2] = 9;
         for withdrawn in [&[8, octet][..], &[8, octet, 8, octet]] {
             let mut left = rows.clone();
-            assert_eq!(message_apply(&message_with(withdrawn, &[], &[8, octet]), 9, &mut left, n), done([0, n]));
+            assert_eq!(apply(&message_with(withdrawn, &[], &[8, octet]), 9, &mut left, n), done([0, n]));
             assert_eq!(left, expected, "{octet}.0.0.0/8");
         }
     }
@@ -148,7 +148,7 @@ fn withdrawals_come_first_so_that_a_full_table_exchanges_its_routes() {
     // 10.0.0.0/8 for 11.0.0.0/8, at a capacity of 1.
     let message = message_with(&TEN_8, &[], &[8, 11]);
     let (mut rows, n) = rows_of(&[10 << 24, 8, 7], 1);
-    assert_eq!(message_apply(&message, 9, &mut rows, n), done([0, 1]));
+    assert_eq!(apply(&message, 9, &mut rows, n), done([0, 1]));
     assert_eq!(rows, [11 << 24, 8, 9, 0, 0, UNTOUCHED, UNTOUCHED]);
     // 4,096 routes of 32 bits, of which the last 100 go and 100 others come.
     let of_32_bits = |from: u32| (from..from + 100).flat_map(|value| [&[32][..], &value.to_be_bytes()].concat());
@@ -165,7 +165,7 @@ fn rows_that_are_freed_and_not_used_again_are_zeros() {
     let list = [8 << 24, 8, 1, 9 << 24, 8, 2, 10 << 24, 8, 3, 11 << 24, 8, 4];
     let (mut rows, n) = rows_of(&list, 6);
     let message = message_with(&[8, 8, 8, 9, 8, 10], &[], &[8, 12]);
-    assert_eq!(message_apply(&message, 9, &mut rows, n), done([0, 2]));
+    assert_eq!(apply(&message, 9, &mut rows, n), done([0, 2]));
     assert_eq!(saved(&rows, 2), [11 << 24, 8, 4, 12 << 24, 8, 9]);
     assert_eq!(rows[10..20], [0; 10]);
     assert_eq!(rows[20..], [UNTOUCHED; 12]);
@@ -179,12 +179,12 @@ fn one_by_one(message: &Message, port: u32, mut rows: Vec<u32>, mut n: u32) -> (
     };
     let (withdrawn, announced) = (cleared(&message.withdrawn), cleared(&message.announced));
     for (value, length) in withdrawn.into_iter().filter(|prefix| !announced.contains(prefix)) {
-        let answer = table_withdraw(&mut rows, n, value, length);
+        let answer = withdraw(&mut rows, n, value, length);
         assert!([0, 10].contains(&answer.number), "{answer:?}");
         n = answer.answer[1];
     }
     for (value, length) in announced {
-        let answer = table_announce(&mut rows, n, value, length, port);
+        let answer = announce(&mut rows, n, value, length, port);
         assert_eq!(answer.number, 0, "{answer:?}");
         n = answer.answer[1];
     }
@@ -203,7 +203,7 @@ fn random_messages_leave_the_final_set_and_the_rows_of_their_calls_one_by_one_or
         let capacity = held.len() + random.index(after.len().saturating_sub(held.len()) + 2);
         let (mut rows, n) = rows_of(&list_of(&held), capacity);
         let before = rows.clone();
-        let answer = message_apply(&message.bytes(), port, &mut rows, n);
+        let answer = apply(&message.bytes(), port, &mut rows, n);
         if after.len() > capacity {
             assert_eq!(answer, refused(9, [0, n]), "seed {seed}");
             assert_eq!(rows, before, "seed {seed}");
@@ -225,7 +225,7 @@ fn the_messages_of_two_daemons_are_applied_in_order() {
     for sent in captured() {
         let (mut rows, mut n) = (vec![UNTOUCHED; 5 * 6], 0);
         for (number, (message, expected)) in sent.messages.iter().enumerate() {
-            let answer = message_apply(message, 9, &mut rows, n);
+            let answer = apply(message, 9, &mut rows, n);
             assert_eq!(answer, done([0, expected.len() as u32]), "{}, message {number}", sent.daemon);
             n = answer.answer[1];
             let held: Held = expected.iter().map(|prefix| (*prefix, 9)).collect();
@@ -299,7 +299,7 @@ fn a_written_message_withdraws_just_its_list() {
         let expected: Held = expected.map(|(prefix, port)| (*prefix, *port)).collect();
         for (before, after) in [(&held, &Held::new()), (&mixed, &expected)] {
             let (mut rows, n) = rows_of(&list_of(before), before.len());
-            assert_eq!(message_apply(&message, 9, &mut rows, n), done([0, after.len() as u32]), "seed {seed}");
+            assert_eq!(apply(&message, 9, &mut rows, n), done([0, after.len() as u32]), "seed {seed}");
             assert_eq!(saved(&rows, after.len() as u32), list_of(after), "seed {seed}");
         }
     }

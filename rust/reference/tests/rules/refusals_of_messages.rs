@@ -2,8 +2,8 @@
 //! place, in the order of the checks; and the refusals of the message that is written.
 
 use crate::messages::{list_of_24_bits, message_with, TEN_8, TEN_ONE_16};
-use crate::support::{done, full_length_list, refused, table_of, Random, UNTOUCHED, UNTOUCHED_BYTE};
-use reference::{message_apply, message_write};
+use crate::support::{apply, done, full_length_list, refused, table_of, Random, UNTOUCHED, UNTOUCHED_BYTE};
+use reference::message_write;
 use workload::messages::captured;
 use workload::{damage_rows, Message};
 
@@ -21,7 +21,7 @@ fn assert_refused_whatever_else(message: &[u8], number: u32, place: u32) {
     for (rows, n) in [(&rows[..], n), (&rows[..10], n), (&rows, 1), (&rows, u32::MAX), (&[], 0)] {
         for port in [9, 0] {
             let mut after = rows.to_vec();
-            let answer = message_apply(message, port, &mut after, n);
+            let answer = apply(message, port, &mut after, n);
             assert_eq!(answer, refused(number, [place, n]), "{message:02X?}");
             assert_eq!(after, rows, "{message:02X?}");
         }
@@ -44,7 +44,7 @@ fn example() -> Vec<u8> {
 #[test]
 fn the_example_is_applied() {
     let (mut rows, n) = table();
-    assert_eq!(message_apply(&example(), 9, &mut rows, n), done([0, 1]));
+    assert_eq!(apply(&example(), 9, &mut rows, n), done([0, 1]));
 }
 
 #[test]
@@ -84,7 +84,7 @@ fn a_length_that_is_not_the_bytes_lent_or_outside_23_to_4096_is_refused_14_at_16
     assert_refused_whatever_else(&[example(), vec![0; 65_536]].concat(), 14, 16);
     for size in [23, 24, 4095, 4096] {
         let (mut rows, n) = table();
-        assert_eq!(message_apply(&of(size), 9, &mut rows, n), done([0, n]), "{size} bytes");
+        assert_eq!(apply(&of(size), 9, &mut rows, n), done([0, n]), "{size} bytes");
     }
 }
 
@@ -108,7 +108,7 @@ fn a_withdrawn_length_is_to_leave_two_bytes_after_its_part() {
     // The same with prefixes that are right.
     let whole = with(&example(), 19, &[0, 8, 8, 10, 0, 0, 0, 0, 0, 0, 0, 0]);
     let (mut rows, n) = table();
-    assert_eq!(message_apply(&whole, 9, &mut rows, n), done([0, 1]));
+    assert_eq!(apply(&whole, 9, &mut rows, n), done([0, 1]));
     // In a message of 23 bytes.
     for withdrawn in [1, 2, 255] {
         assert_refused_whatever_else(&with(&message_with(&[], &[], &[]), 20, &[withdrawn]), 14, 19);
@@ -127,7 +127,7 @@ fn an_attribute_length_past_the_end_is_refused_14_at_its_own_offset() {
     assert_refused_whatever_else(&with(&message_with(&[], &[], &[]), 22, &[1]), 14, 21);
     // Six bytes of attributes leave nothing announced.
     let (mut rows, n) = table();
-    assert_eq!(message_apply(&with(&example(), 24, &[6]), 9, &mut rows, n), done([0, 1]));
+    assert_eq!(apply(&with(&example(), 24, &[6]), 9, &mut rows, n), done([0, 1]));
 }
 
 #[test]
@@ -171,12 +171,12 @@ fn a_wrong_port_is_refused_6_before_11_and_9_also_where_nothing_is_announced() {
         for port in [0, 4095, 65_536 + 9, u32::MAX] {
             for (rows, n) in [(&rows[..], n), (&rows[..10], n), (&rows, 1), (&rows, u32::MAX), (&[], 0)] {
                 let mut after = rows.to_vec();
-                assert_eq!(message_apply(&message, port, &mut after, n), refused(6, [0, n]), "port {port}");
+                assert_eq!(apply(&message, port, &mut after, n), refused(6, [0, n]), "port {port}");
                 assert_eq!(after, rows);
             }
         }
         for port in [1, 4094] {
-            assert_eq!(message_apply(&message, port, &mut rows.clone(), n).number, 0, "port {port}");
+            assert_eq!(apply(&message, port, &mut rows.clone(), n).number, 0, "port {port}");
         }
     }
 }
@@ -188,7 +188,7 @@ fn a_table_that_is_not_in_good_order_is_refused_11_before_9_also_by_a_message_th
     for message in [message_with(&[], &[], &[8, 1, 8, 2, 8, 3, 8, 4]), message_with(&[], &[], &[])] {
         for (rows, n) in [(&rows[..], 1), (&rows, 3), (&rows, 4), (&rows, u32::MAX), (&rows[..9], n), (&[], 1)] {
             let mut after = rows.to_vec();
-            assert_eq!(message_apply(&message, 9, &mut after, n), refused(11, [0, n]));
+            assert_eq!(apply(&message, 9, &mut after, n), refused(11, [0, n]));
             assert_eq!(after, rows);
         }
     }
@@ -216,14 +216,14 @@ fn more_routes_in_the_end_than_the_capacity_are_refused_9_and_just_as_many_accep
     ] {
         let mut left = rows.clone();
         let expected = after.map_or(refused(9, [0, n]), |after| done([0, after]));
-        assert_eq!(message_apply(&message, 9, &mut left, n), expected, "{message:02X?}");
+        assert_eq!(apply(&message, 9, &mut left, n), expected, "{message:02X?}");
         assert_eq!(left != rows, after.is_some(), "{message:02X?}");
     }
     // Without a row, and with words that are none.
     let one_more = message_with(&[], &[], &[8, 1]);
     for lent in 0..5 {
-        assert_eq!(message_apply(&one_more, 9, &mut vec![UNTOUCHED; lent], 0), refused(9, [0, 0]));
-        assert_eq!(message_apply(&message_with(&[8, 1], &[], &[]), 9, &mut vec![UNTOUCHED; lent], 0), done([0, 0]));
+        assert_eq!(apply(&one_more, 9, &mut vec![UNTOUCHED; lent], 0), refused(9, [0, 0]));
+        assert_eq!(apply(&message_with(&[8, 1], &[], &[]), 9, &mut vec![UNTOUCHED; lent], 0), done([0, 0]));
     }
 }
 
@@ -232,12 +232,12 @@ fn a_full_table_of_4096_routes_is_full_however_many_rows_are_lent() {
     let (mut rows, n) = table_of(&full_length_list(4096));
     rows.extend([UNTOUCHED; 10]);
     let before = rows.clone();
-    assert_eq!(message_apply(&message_with(&[], &[], &[8, 1]), 9, &mut rows, n), refused(9, [0, 4096]));
+    assert_eq!(apply(&message_with(&[], &[], &[8, 1]), 9, &mut rows, n), refused(9, [0, 4096]));
     assert_eq!(rows, before);
     // One for one, and the port of a held one.
     let exchange = message_with(&[32, 0, 0, 0, 7], &[], &[8, 1]);
-    assert_eq!(message_apply(&exchange, 9, &mut rows, n), done([0, 4096]));
-    assert_eq!(message_apply(&message_with(&[], &[], &[32, 0, 0, 0, 8]), 9, &mut rows, n), done([0, 4096]));
+    assert_eq!(apply(&exchange, 9, &mut rows, n), done([0, 4096]));
+    assert_eq!(apply(&message_with(&[], &[], &[32, 0, 0, 0, 8]), 9, &mut rows, n), done([0, 4096]));
     assert_eq!(rows[5 * 4096..], [UNTOUCHED; 10]);
 }
 
@@ -245,7 +245,7 @@ fn a_full_table_of_4096_routes_is_full_however_many_rows_are_lent() {
 /// nothing and answers n as it was.
 fn apply_damaged(message: &[u8], rows: &[u32], n: u32) -> u32 {
     let mut after = rows.to_vec();
-    let answer = message_apply(message, 9, &mut after, n);
+    let answer = apply(message, 9, &mut after, n);
     if answer.number != 0 {
         assert_eq!(answer.answer[1], n, "{message:02X?}");
         assert_eq!(after, rows, "{message:02X?}");

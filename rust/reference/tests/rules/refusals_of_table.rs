@@ -1,7 +1,8 @@
 //! Rules, "Numbers on the refusal lamp" and "Lookup": refusals of the functions that are lent a table.
 
-use crate::support::{address, done, full_length_list, list_of_bits, prefix, refused, table_of, UNTOUCHED};
-use reference::{table_announce, table_check, table_lookup, table_runs, table_save, table_withdraw};
+use crate::support::UNTOUCHED;
+use crate::support::{address, announce, done, full_length_list, list_of_bits, prefix, refused, table_of, withdraw};
+use reference::{table_check, table_lookup, table_runs, table_save};
 
 /// Routes /0, 0 and 01: three ordinary nodes, one below the other.
 fn chain() -> (Vec<u32>, u32) {
@@ -126,13 +127,13 @@ fn table_runs_refuses_11_then_9() {
 
 fn assert_announce_refused(rows: &[u32], n: u32, (value, length, port): (u32, u32, u32), number: u32) {
     let mut after = rows.to_vec();
-    assert_eq!(table_announce(&mut after, n, value, length, port), refused(number, [0, n]));
+    assert_eq!(announce(&mut after, n, value, length, port), refused(number, [0, n]));
     assert_eq!(after, rows, "a refusal writes nothing");
 }
 
 fn assert_withdraw_refused(rows: &[u32], n: u32, (value, length): (u32, u32), number: u32) {
     let mut after = rows.to_vec();
-    assert_eq!(table_withdraw(&mut after, n, value, length), refused(number, [0, n]));
+    assert_eq!(withdraw(&mut after, n, value, length), refused(number, [0, n]));
     assert_eq!(after, rows, "a refusal writes nothing");
 }
 
@@ -167,7 +168,7 @@ fn announcing_a_new_prefix_at_full_capacity_is_refused_9() {
 fn announcing_a_held_prefix_at_full_capacity_gets_the_new_port() {
     let (mut rows, n) = chain();
     let (value, length) = prefix("01");
-    assert_eq!(table_announce(&mut rows, n, value, length, 4094), done([0, n]));
+    assert_eq!(announce(&mut rows, n, value, length, 4094), done([0, n]));
     assert_eq!(rows, chain_with(2, PORT, 4094));
 }
 
@@ -176,8 +177,8 @@ fn the_4097th_prefix_is_refused_9_however_many_rows_are_lent() {
     let (mut rows, n) = table_of(&full_length_list(4096));
     rows.extend([UNTOUCHED; 10]);
     assert_announce_refused(&rows, n, (4096, 32, 1), 9);
-    assert_eq!(table_announce(&mut rows, n, 4095, 32, 2), done([0, 4096]));
-    assert_eq!(table_withdraw(&mut rows, n, 0, 32), done([0, 4095]));
+    assert_eq!(announce(&mut rows, n, 4095, 32, 2), done([0, 4096]));
+    assert_eq!(withdraw(&mut rows, n, 0, 32), done([0, 4095]));
     assert_eq!(rows[5 * 4095..5 * 4096], [0; 5]);
     assert_eq!(rows[5 * 4096..], [UNTOUCHED; 10]);
 }

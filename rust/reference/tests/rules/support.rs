@@ -1,6 +1,7 @@
-//! What the tests share: prefixes written as bits, tables, images and segment tables of lists, and a plain scan of the
-//! tests' own.
+//! What the tests share: prefixes written as bits, tables, images and segment tables of lists, updates of tables with
+//! their counts, and a plain scan of the tests' own.
 
+use reference::{counted_announce, counted_message, counted_withdraw, counts_make};
 use reference::{image_build, segments_build, segments_lookup, table_build, Answer};
 pub use workload::segments::Stores;
 pub use workload::{first_bits_of, full_length_list, list_of, Held, Prefix, Random};
@@ -9,9 +10,12 @@ pub use workload::{first_bits_of, full_length_list, list_of, Held, Prefix, Rando
 pub const UNTOUCHED: u32 = 0xDEAD_BEEF;
 pub const UNTOUCHED_BYTE: u8 = 0xA5;
 pub const UNTOUCHED_PORT: u16 = 0xA5A5;
+pub const UNTOUCHED_COUNT: u64 = 0xDEAD_BEEF_A5A5_A5A5;
 
 pub const STRIDES: [u32; 3] = [1, 2, 4];
 pub const NODE_WORDS: usize = 2;
+/// The counts that a table has: ports 0..4094.
+pub const COUNTS: usize = 4095;
 
 pub fn done<const N: usize>(answer: [u32; N]) -> Answer<N> {
     Answer { number: 0, answer }
@@ -42,6 +46,39 @@ pub fn table_of(list: &[u32]) -> (Vec<u32>, u32) {
     let mut rows = vec![UNTOUCHED; 5 * n];
     assert_eq!(table_build(list, &mut rows), done([0, n as u32]));
     (rows, n as u32)
+}
+
+/// The counts of a table, and two elements more that never belong to it. Where the table is not in good order, no
+/// element is written.
+pub fn counts_of(rows: &[u32], n: u32) -> Vec<u64> {
+    let mut counts = vec![UNTOUCHED_COUNT; COUNTS + 2];
+    counts_make(rows, n, &mut counts);
+    counts
+}
+
+/// Updates a table with its counts. They are then those of the table that is left, and as they were on a refusal.
+fn in_step(rows: &mut [u32], n: u32, update: impl FnOnce(&mut [u32], &mut [u64]) -> Answer<2>) -> Answer<2> {
+    let before = counts_of(rows, n);
+    let mut counts = before.clone();
+    let answer = update(rows, &mut counts);
+    let expected = if answer.number == 0 { counts_of(rows, answer.answer[1]) } else { before };
+    assert!(counts == expected, "the counts are not in step with {answer:?}");
+    answer
+}
+
+/// [`counted_announce`] on a table with its counts.
+pub fn announce(rows: &mut [u32], n: u32, value: u32, length: u32, port: u32) -> Answer<2> {
+    in_step(rows, n, |rows, counts| counted_announce(rows, n, value, length, port, counts))
+}
+
+/// [`counted_withdraw`] on a table with its counts.
+pub fn withdraw(rows: &mut [u32], n: u32, value: u32, length: u32) -> Answer<2> {
+    in_step(rows, n, |rows, counts| counted_withdraw(rows, n, value, length, counts))
+}
+
+/// [`counted_message`] on a table with its counts.
+pub fn apply(message: &[u8], port: u32, rows: &mut [u32], n: u32) -> Answer<2> {
+    in_step(rows, n, |rows, counts| counted_message(message, port, rows, n, counts))
 }
 
 /// The nodes and ports of an image built with room to spare, cut to what was written.

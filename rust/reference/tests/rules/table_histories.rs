@@ -1,7 +1,7 @@
 //! Histories of announcements and withdrawals against the set of routes they leave, and the rows that places keep.
 
-use crate::support::{done, list_of, refused, scan, table_of, Held, Prefix, Random, UNTOUCHED};
-use reference::{table_announce, table_build, table_check, table_lookup, table_save, table_withdraw};
+use crate::support::{announce, done, list_of, refused, scan, table_of, withdraw, Held, Prefix, Random, UNTOUCHED};
+use reference::{table_build, table_check, table_lookup, table_save};
 use std::collections::BTreeMap;
 
 /// A table under test, with the routes that it is to hold.
@@ -46,7 +46,7 @@ impl Gateway {
 
     fn announce(&mut self, (value, length): Prefix, port: u32) {
         let (before, n) = (self.rows.clone(), self.n);
-        let answer = table_announce(&mut self.rows, n, value, length, port);
+        let answer = announce(&mut self.rows, n, value, length, port);
         if !self.held.contains_key(&(value, length)) && self.held.len() == self.capacity() {
             assert_eq!(answer, refused(9, [0, n]), "seed {}", self.seed);
             assert_eq!(self.rows, before, "seed {}", self.seed);
@@ -65,7 +65,7 @@ impl Gateway {
 
     fn withdraw(&mut self, (value, length): Prefix) {
         let (before, n) = (self.rows.clone(), self.n);
-        let answer = table_withdraw(&mut self.rows, n, value, length);
+        let answer = withdraw(&mut self.rows, n, value, length);
         if self.held.remove(&(value, length)).is_none() {
             assert_eq!(answer, refused(10, [0, n]), "seed {}", self.seed);
             assert_eq!(self.rows, before, "seed {}", self.seed);
@@ -165,7 +165,7 @@ fn building_gives_what_announcing_in_list_order_gives() {
         let mut announced = built.clone();
         let mut n = 0;
         for route in list.chunks(3) {
-            n = table_announce(&mut announced, n, route[0], route[1], route[2]).answer[1];
+            n = announce(&mut announced, n, route[0], route[1], route[2]).answer[1];
         }
         assert_eq!(table_build(&list, &mut built), done([0, n]), "seed {seed}");
         assert_eq!(built, announced, "seed {seed}");

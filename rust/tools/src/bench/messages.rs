@@ -2,11 +2,13 @@
 //! message that withdraws a list.
 
 use super::race::{timed, Race, Runner};
-use super::subject::Subject;
+use super::subject::{some_of, Subject};
+use super::table::Table;
+use super::updates::Updated;
 use maftehon::calls;
 use workload::{first_bits_of, list_of, Held, Message, Prefix, Random};
 
-/// Routes of the table, spread over the set.
+/// Routes of the table.
 const ROUTES: usize = 3000;
 /// As many prefixes of 24 bits as a message can have: 4,095 bytes with its head.
 const PREFIXES: usize = 1018;
@@ -15,24 +17,17 @@ const PORT: u32 = 9;
 const REPEATED: usize = 10;
 
 pub fn races(subject: &Subject) -> Vec<Race<'_>> {
-    let before = some_of(&subject.held);
+    let before = some_of(&subject.held, ROUTES);
     let prefixes = new_prefixes(&before);
     let announcing = Message { announced: prefixes.clone(), ..Message::default() };
     let withdrawing = Message { withdrawn: prefixes.clone(), ..Message::default() };
     let after = announcing.applied_to(&before, PORT);
     vec![
-        apply("message of 1,018 announced /24 at 3,000 routes", Table::of(&before), announcing),
-        apply("message that withdraws them again, at 4,018", Table::of(&after), withdrawing),
-        apply("message with nothing in it, at 3,000 routes", Table::of(&before), Message::default()),
+        apply("message of 1,018 announced /24 at 3,000 routes", &before, announcing),
+        apply("message that withdraws them again, at 4,018", &after, withdrawing),
+        apply("message with nothing in it, at 3,000 routes", &before, Message::default()),
         write("message written that withdraws 1,018 /24", prefixes),
     ]
-}
-
-/// As many routes of the set as the table is to have, from all over it.
-fn some_of(held: &Held) -> Held {
-    let passed = |number: usize| number * ROUTES / held.len();
-    let some = held.iter().enumerate().filter(|(number, _)| passed(*number) < passed(number + 1));
-    some.map(|(_, (prefix, port))| (*prefix, *port)).collect()
 }
 
 /// Prefixes of 24 bits that are not held, from all over the space, in no order.
@@ -48,32 +43,13 @@ fn new_prefixes(held: &Held) -> Vec<Prefix> {
     prefixes
 }
 
-/// With room for 4,096 routes.
-#[derive(Clone)]
-struct Table {
-    rows: Vec<u32>,
-    n: u32,
-}
-
-impl Table {
-    fn of(held: &Held) -> Table {
-        let mut rows = vec![0; 5 * maftehon::ROUTES_LAST];
-        let built = calls::table_build(&list_of(held), &mut rows);
-        assert_eq!(built.number, 0, "a valid list is built");
-        Table { rows, n: built.answer[1] }
-    }
-}
-
-fn apply<'a>(what: &'static str, table: Table, message: Message) -> Race<'a> {
-    let (message, checked) = (message.bytes(), table.clone());
-    let mut rows = table.rows.clone();
+fn apply<'a>(what: &'static str, held: &Held, message: Message) -> Race<'a> {
+    let (before, message) = (Table::of(&list_of(held)), message.bytes());
+    let (checked, mut table) = (before.clone(), before.clone());
     // The table is as it was before each message.
     let mut applied = move || {
-        rows.copy_from_slice(&table.rows);
-        timed(|| {
-            let answer = calls::message_apply(&message, PORT, &mut rows, table.n);
-            assert_eq!(answer.number, 0, "the message is applied");
-        })
+        table.become_like(&before);
+        timed(|| table.apply(&message, PORT))
     };
     let turn = move || {
         // Once untimed, as every other runner.

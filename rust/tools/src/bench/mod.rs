@@ -2,6 +2,7 @@
 //! rounds.
 
 mod chart;
+mod counts;
 mod lists;
 mod lookups;
 mod messages;
@@ -10,6 +11,7 @@ mod report;
 mod segments;
 mod subject;
 mod svg;
+mod table;
 mod updates;
 
 pub use chart::chart;
@@ -33,5 +35,6 @@ pub fn measure(kind: Kind, rounds: usize) -> Measured {
     races.extend(updates::races(&subject));
     races.extend(segments::races(&subject));
     races.extend(messages::races(&subject));
+    races.extend(counts::races(&subject));
     Measured { set: kind.name(), outcomes: race::run(races, rounds) }
 }

@@ -10,8 +10,10 @@ pub enum Runner {
     Plain,
     /// The proved library itself, by an image at stride 4: another structure for the same addresses.
     Image,
-    /// The proved library itself, by a check of the good order of the same table.
+    /// The proved library itself, by a check of the good order of the same table, beside messages.
     Check,
+    /// The same check beside the calls that make counts and keep them, which have a table of their own.
+    CheckOfCounted,
     Reference,
 }
 

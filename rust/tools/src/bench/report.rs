@@ -8,13 +8,14 @@ pub fn report(all: &[Measured]) -> String {
 }
 
 /// The runners by which the library is measured against itself, each with the head of its table.
-const OWN: [(Runner, [&str; 4]); 2] = [
+const OWN: [(Runner, [&str; 4]); 3] = [
     (Runner::Image, ["What", "segment tables", "image, stride 4", "segment tables ÷ image"]),
     (Runner::Check, ["What", "message", "good-order check", "message ÷ check"]),
+    (Runner::CheckOfCounted, ["What", "with counts", "good-order check", "with counts ÷ check"]),
 ];
 
-/// First what is measured against plain code and the reference, then segment tables against an image, and messages
-/// against the check of a table.
+/// First what is measured against plain code and the reference, then segment tables against an image, and messages and
+/// counts against the check of a table.
 fn tables(measured: &Measured) -> String {
     let of = |runner| measured.outcomes.iter().filter(move |outcome| outcome.of(runner).is_some());
     let others = measured.outcomes.iter().filter(|outcome| OWN.iter().all(|(runner, _)| outcome.of(*runner).is_none()));

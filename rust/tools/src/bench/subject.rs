@@ -64,6 +64,13 @@ impl Built {
     }
 }
 
+/// So many routes of a set, from all over it.
+pub fn some_of(held: &Held, count: usize) -> Held {
+    let passed = |number: usize| number * count / held.len();
+    let some = held.iter().enumerate().filter(|(number, _)| passed(*number) < passed(number + 1));
+    some.map(|(_, (prefix, port))| (*prefix, *port)).collect()
+}
+
 /// Half of them inside a route, the others anywhere.
 fn addresses(list: &[u32]) -> Vec<u32> {
     let mut random = Random::new(1);

@@ -1,61 +1,41 @@
-//! Sixteen announcements, up to 4,096 routes, and as many withdrawals from there.
+//! Sixteen announcements, up to all the routes of a set, and as many withdrawals from there. The plain trie has no
+//! counts to keep.
 
 use super::race::{timed, Race, Runner};
 use super::subject::Subject;
+use super::table::Table;
 use crate::plain_trie::PlainTrie;
-use maftehon::calls;
 use std::time::Duration;
 use workload::{list_of, Held};
 
 /// Updates of a turn: so many routes go in and come out again.
 const UPDATES: usize = 16;
 
-type Route = ((u32, u32), u32);
+pub type Route = ((u32, u32), u32);
 
 /// What takes updates.
-trait Updated {
+pub trait Updated {
     /// With room for 4,096 routes.
     fn of(list: &[u32]) -> Self;
     fn announce(&mut self, route: &Route);
     fn withdraw(&mut self, route: &Route);
 }
 
-struct ProvedTable {
-    rows: Vec<u32>,
-    n: u32,
-}
-
-impl Updated for ProvedTable {
-    fn of(list: &[u32]) -> ProvedTable {
-        let mut rows = vec![0; 5 * maftehon::ROUTES_LAST];
-        let n = calls::table_build(list, &mut rows).answer[1];
-        ProvedTable { rows, n }
-    }
-
-    fn announce(&mut self, ((value, length), port): &Route) {
-        self.n = calls::table_announce(&mut self.rows, self.n, *value, *length, *port).answer[1];
-    }
-
-    fn withdraw(&mut self, ((value, length), _): &Route) {
-        self.n = calls::table_withdraw(&mut self.rows, self.n, *value, *length).answer[1];
-    }
-}
-
-struct ReferenceTable(ProvedTable);
+struct ReferenceTable(Table);
 
 impl Updated for ReferenceTable {
     fn of(list: &[u32]) -> ReferenceTable {
-        ReferenceTable(ProvedTable::of(list))
+        ReferenceTable(Table::of(list))
     }
 
     fn announce(&mut self, ((value, length), port): &Route) {
-        let table = &mut self.0;
-        table.n = reference::table_announce(&mut table.rows, table.n, *value, *length, *port).answer[1];
+        let Table { rows, n, counts } = &mut self.0;
+        *n = reference::counted_announce(rows, *n, *value, *length, *port, counts).answer[1];
     }
 
     fn withdraw(&mut self, ((value, length), _): &Route) {
-        let table = &mut self.0;
-        table.n = reference::table_withdraw(&mut table.rows, table.n, *value, *length).answer[1];
+        let Table { rows, n, counts } = &mut self.0;
+        *n = reference::counted_withdraw(rows, *n, *value, *length, counts).answer[1];
     }
 }
 
@@ -73,28 +53,54 @@ impl Updated for PlainTrie {
     }
 }
 
-pub fn races(subject: &Subject) -> Vec<Race<'_>> {
-    vec![race("announce at 4,096 routes", subject, 0), race("withdraw at 4,096 routes", subject, 1)]
-}
-
 /// Of the two parts of a turn, the one that counts.
-fn race<'a>(what: &'static str, subject: &'a Subject, part: usize) -> Race<'a> {
-    let step = subject.held.len() / UPDATES;
-    let moving: Held = subject.held.iter().step_by(step).map(|(prefix, port)| (*prefix, *port)).collect();
-    let staying = subject.held.iter().filter(|(prefix, _)| !moving.contains_key(prefix));
-    let list = list_of(&staying.map(|(prefix, port)| (*prefix, *port)).collect());
-    let moving: Vec<Route> = moving.into_iter().collect();
-    let race = lane::<ProvedTable>(Race::new(what), Runner::Proved, &list, &moving, part);
-    let race = lane::<PlainTrie>(race, Runner::Plain, &list, &moving, part);
-    lane::<ReferenceTable>(race, Runner::Reference, &list, &moving, part)
+#[derive(Clone, Copy)]
+pub enum Part {
+    Announcements,
+    Withdrawals,
 }
 
-fn lane<'a, U: Updated + 'a>(race: Race<'a>, runner: Runner, list: &[u32], moving: &[Route], part: usize) -> Race<'a> {
-    let (mut table, moving) = (U::of(list), moving.to_vec());
+/// The routes that go in and come out again, from all over a set, and the list of the others.
+pub struct Turn {
+    moving: Vec<Route>,
+    staying: Vec<u32>,
+}
+
+impl Turn {
+    pub fn of(held: &Held) -> Turn {
+        let step = held.len() / UPDATES;
+        let moving: Held = held.iter().step_by(step).map(|(prefix, port)| (*prefix, *port)).collect();
+        let staying = held.iter().filter(|(prefix, _)| !moving.contains_key(prefix));
+        let staying = list_of(&staying.map(|(prefix, port)| (*prefix, *port)).collect());
+        Turn { moving: moving.into_iter().collect(), staying }
+    }
+}
+
+pub fn races<'a>(subject: &Subject) -> Vec<Race<'a>> {
+    let turn = Turn::of(&subject.held);
+    vec![
+        race("announce at 4,096 routes", &turn, Part::Announcements),
+        race("withdraw at 4,096 routes", &turn, Part::Withdrawals),
+    ]
+}
+
+fn race<'a>(what: &'static str, turn: &Turn, part: Part) -> Race<'a> {
+    let race = lane::<Table>(Race::new(what), Runner::Proved, turn, part);
+    let race = lane::<PlainTrie>(race, Runner::Plain, turn, part);
+    lane::<ReferenceTable>(race, Runner::Reference, turn, part)
+}
+
+/// The race with a runner in it that is timed in this part of the turn.
+pub fn lane<'a, U: Updated + 'a>(race: Race<'a>, runner: Runner, turn: &Turn, part: Part) -> Race<'a> {
+    let (mut table, moving) = (U::of(&turn.staying), turn.moving.clone());
     race.timed_runner(runner, moving.len(), move || {
         // Once untimed, as every other runner.
         in_and_out(&mut table, &moving);
-        in_and_out(&mut table, &moving)[part]
+        let [announcing, withdrawing] = in_and_out(&mut table, &moving);
+        match part {
+            Part::Announcements => announcing,
+            Part::Withdrawals => withdrawing,
+        }
     })
 }
 

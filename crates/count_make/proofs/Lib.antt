@@ -1,0 +1,4 @@
+-- Laws of the making of counts.
+pub mod Added
+pub mod Made
+pub mod Unique

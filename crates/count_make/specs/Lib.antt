@@ -1,0 +1,2 @@
+-- How the runs of a listing are added up.
+pub mod Adding

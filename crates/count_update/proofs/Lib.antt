@@ -1,0 +1,4 @@
+-- Laws of the counted updates.
+pub mod Counts
+pub mod Updates
+pub mod Unique

@@ -144,6 +144,11 @@ module _ (L : Layout (List ℕ)) (w : ℕ) where
     unfolding firstCheck
     first-passed p = rw (le-leb ports (length counts) (p .room), eq-eqb (fault .number) 0 (p .none), p .good, p .same)
 
+    -- what the arguments are refused with is handed on
+    pub first-fault : ports ≤ length counts → (fault .number ≡ 0 → ⊥) → firstCheck L w fault words n counts ≡ fault
+    unfolding firstCheck
+    first-fault room wrong = rw (le-leb ports (length counts) room, ne-eqb (fault .number) 0 wrong)
+
     pub first-either : Passed ⊎ Refused
     unfolding firstCheck
     first-either =

@@ -8,7 +8,7 @@ use native.Mathlib.Omega.{arith}
 use lib.Dec.{eqb, leb}
 use lib.ListN.{length, getD, take, drop}
 use lib.Seq.{take-at}
-use borrow.Author.Tests.{eqb-true, eqb-false, leb-true, le-leb}
+use borrow.Author.Tests.{eqb-true, eqb-false, leb-true}
 use Rattle.promise.specs.Over.{Outcome, over}
 use Rattle.promise.proofs.Over.{length-over}
 use Rattle.lists.proofs.Tests.{way}
@@ -22,11 +22,11 @@ use Rattle.table_update.specs.History.{Table}
 use Rattle.message_calls.specs.History.{Event, EventFits, outcomeOn, afterEvent, ranEvents}
 use Rattle.message_calls.proofs.Theorems.{event-is}
 use Rattle.count_rules.specs.Tally.{ports, total}
-use Rattle.count_rules.specs.Counted.{Counted, faultOf, countsOf, makeCounts, firstCheck}
+use Rattle.count_rules.specs.Counted.{Counted, faultOf, countsOf, makeCounts}
 use Rattle.count_rules.specs.History.{Book, leftBy, AllEventsFit, countedIn, ranCounted}
 use Rattle.count_rules.specs.Theorems.{InStep, InStepIsPlain, Kept, CountedHistoryIs}
 use Rattle.count_rules.proofs.OfTable.{total-is}
-use Rattle.count_rules.proofs.Counted.{length-counts, over-past, front-same, plain-fault, Passed, Refused, counted-passed, counted-refused, counted-done, Way, refusedFirst, refusedLater, done, which-way, refused-kept, only-changed}
+use Rattle.count_rules.proofs.Counted.{length-counts, over-past, front-same, plain-fault, Passed, Refused, first-fault, counted-passed, counted-refused, counted-done, Way, refusedFirst, refusedLater, done, which-way, refused-kept, only-changed}
 
 -- counts made afresh
 
@@ -46,15 +46,6 @@ made-afresh L w words n counts z = by (way (leb ports (length counts))) (way (is
     by (inr a) b e = absurd (omega (arith, rw a at e))
     by (inl a) (inr b) e = absurd (omega (arith, rw (a, b) at e))
     by (inl a) (inl b) e = record { room = leb-true ports (length counts) a; good = b; left = rw (a, b) }
-
--- the front is what was written over it
-over-taken : (out lent : List ℕ) → length out ≡ ports → take ports (over out lent) ≡ out
-over-taken out lent size = take-at out (drop (length out) lent) ports size
-
-refused-with : (L : Layout (List ℕ)) (w : ℕ) (fault : Answer) (words : List ℕ) (n : ℕ) (counts : List ℕ) → ports ≤ length counts
-    → eqb (fault .number) 0 ≡ false → firstCheck L w fault words n counts ≡ fault
-unfolding firstCheck
-refused-with L w fault words n counts room t = rw (le-leb ports (length counts) room, t)
 
 module _ (L : Layout (List ℕ)) (w : ℕ) where
   -- counts in step leave the decision to the update without counts
@@ -82,8 +73,8 @@ module _ (L : Layout (List ℕ)) (w : ℕ) where
           let is = counted-passed L w words n (b .counts) e p in
           (ap (λ (o : Counted). o .answer) is, ap (λ (o : Counted). o .rows) is)
       by (inr t) =
-          let first : firstCheck L w (faultOf w n e) words n (b .counts) ≡ faultOf w n e = refused-with L w (faultOf w n e) words n (b .counts) room t in
           let wrong = eqb-false (faultOf w n e .number) 0 t in
+          let first = first-fault L w (faultOf w n e) words n (b .counts) room wrong in
           let r : Refused L w (faultOf w n e) words n (b .counts) = record {
             wrong = λ z. wrong (sym (ap (λ (a : Answer). a .number) first) ∙ z);
             n-is = λ z. ap (λ (a : Answer). a .count) first ∙ z;
@@ -144,7 +135,7 @@ module _ (L : Layout (List ℕ)) (w : ℕ) where
               ap (λ (x : Counted). x .counts) is ∙ sym (ap₂ (λ (ws : List ℕ) (m : ℕ). over (countsOf L w ws m) (b .counts)) rows-are n-is) in
               let within : length fresh ≤ length (b .counts) = subst (λ (m : ℕ). m ≤ length (b .counts)) (sym size) (sound .room) in (
                 ap length left ∙ length-over fresh (b .counts) within,
-                ap (take ports) left ∙ over-taken fresh (b .counts) size,
+                ap (take ports) left ∙ take-at fresh (drop (length fresh) (b .counts)) ports size,
               )
 
       sound-after : Sound (leftBy o)
@@ -178,7 +169,7 @@ module _ (L : Layout (List ℕ)) (w : ℕ) where
         let book : Book = record { table = t; counts = makeCounts L w (t .words) (t .count) lent .lent } in
         let sound : Sound book = record {
           room = subst (λ (xs : List ℕ). ports ≤ length xs) (sym (m .left)) (subst (λ (k : ℕ). ports ≤ k) (sym (length-over fresh lent within)) (m .room));
-          step = ap (take ports) (m .left) ∙ over-taken fresh lent size;
+          step = ap (take ports) (m .left) ∙ take-at fresh (drop (length fresh) lent) ports size;
           good = check-is-good w (L .room (t .words)) (L .get (t .words)) (t .count) .0 (m .good);
         } in
         let k = keeps book es fits sound in

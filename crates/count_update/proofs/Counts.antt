@@ -26,7 +26,7 @@ use Rattle.message_check.proofs.Whole.{checked-answer}
 use Rattle.message_calls.specs.Apply.{refusedAt}
 use Rattle.count_rules.specs.Tally.{ports, differ}
 use Rattle.count_rules.specs.Counted.{messageFault, countsOf, makeCounts, firstCheck, recounted}
-use Rattle.count_rules.proofs.Counted.{length-counts}
+use Rattle.count_rules.proofs.Counted.{length-counts, first-passed}
 use Rattle.count_rules.proofs.History.{MadeAfresh, made-afresh}
 
 -- comparing
@@ -99,10 +99,6 @@ module _ (L : Layout (List ℕ)) (w : ℕ) (fault : Answer) (words : List ℕ) (
   first-short short = sym (rw (lt-leb ports (length counts) short) refl)
 
   module _ (room : ports ≤ length counts) where
-    pub first-fault : (fault .number ≡ 0 → ⊥) → fault ≡ firstCheck L w fault words n counts
-    unfolding firstCheck
-    first-fault wrong = sym (rw (le-leb ports (length counts) room, ne-eqb (fault .number) 0 wrong) refl)
-
     module _ (none : fault .number ≡ 0) (lent : List ℕ) (size : length lent ≡ ports) {made : Answer} {fresh : List ℕ}
         (is : outcome made fresh ≡ makeCounts L w words n lent) where
       pub first-disorder : (made .number ≡ 0 → ⊥) → keeping notInOrder n ≡ firstCheck L w fault words n counts
@@ -129,9 +125,8 @@ module _ (L : Layout (List ℕ)) (w : ℕ) (fault : Answer) (words : List ℕ) (
             sym (rw (le-leb ports (length counts) room, eq-eqb (fault .number) 0 none, afresh .good, sym (ap (differ counts) fresh-is) ∙ t) refl)
 
         pub first-accepted : differ counts fresh ≡ false → accepted n ≡ firstCheck L w fault words n counts
-        unfolding firstCheck
         first-accepted t =
-            sym (rw (le-leb ports (length counts) room, eq-eqb (fault .number) 0 none, afresh .good, sym (ap (differ counts) fresh-is) ∙ t) refl)
+            sym (first-passed L w fault words n counts (record { room = room; none = none; good = afresh .good; same = sym (ap (differ counts) fresh-is) ∙ t }))
 
 -- what a message is refused with
 

@@ -9,11 +9,6 @@ use Rattle.table_rows.specs.Words.{capacity, rowAt}
 use Rattle.table_rules.specs.Check.{isGood}
 use Rattle.count_rules.specs.Tally.{ports}
 
--- 4,095 counts of both
-pub record BothLent (counts fresh : List ℕ) : Type 0 where
-  pub room : ports ≤ length counts
-  pub made : ports ≤ length fresh
-
 -- 4,095 fresh counts, and as many lent
 pub record FreshLent (counts fresh : List ℕ) : Type 0 where
   pub room : ports ≤ length counts

@@ -8,7 +8,7 @@ ghost use Rattle.message_calls.specs.Apply.{refusedAt};
 ghost use Rattle.message_calls.specs.History.{single, message};
 ghost use Rattle.count_rules.specs.Tally.{differ};
 ghost use Rattle.count_rules.specs.Counted.{counted, messageFault, countsOf, firstCheck, recounted, countedOn};
-ghost use Rattle.count_update.specs.Needs.{BothLent, FreshLent, Countable, Settles};
+ghost use Rattle.count_update.specs.Needs.{FreshLent, Countable, Settles};
 use count_make::make;
 use count_rules::PORTS;
 use message_check::check_message;
@@ -32,7 +32,7 @@ fn keeping(number: u32, place: u32, n: u32) -> Answer
 
 // Whether one of the first 4,095 counts is not the fresh one.
 fn counts_differ(counts: &[u64], fresh: &[u64]) -> bool
-    requires { ⌜ BothLent (now counts) (now fresh) ⌝ }
+    requires { ⌜ FreshLent (now counts) (now fresh) ⌝ }
     ensures { λ r. ⌜ r ≡ differ (now (counts .entry)) (now (fresh .entry)) ⌝ }
 {
     let mut port: usize = 0;

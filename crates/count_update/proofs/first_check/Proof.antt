@@ -1,6 +1,7 @@
 use mathlib.Core.Path.{refl, sym, _∙_}
 use Rattle.table_rows.specs.Words.{fiveWords}
-use Rattle.count_update.proofs.Counts.{first-short, first-fault, first-disorder, first-stale, first-accepted}
+use Rattle.count_rules.proofs.Counted.{first-fault}
+use Rattle.count_update.proofs.Counts.{first-short, first-disorder, first-stale, first-accepted}
 use borrow.Author.Needs.{needs}
 use Rattle.count_update.proofs.first_check.Statement.{statement}
 use Rattle.count_update.proofs.first_check.Tie as tie
@@ -16,7 +17,7 @@ returns c =
 returns-2 : tie.Need-returns-2
 returns-2 c =
     let a = c .before .before .before .before .before .args in
-    first-fault fiveWords 32 (a .fault) (a .rows .now) (a .n) (a .counts .now) (c .before .before .if1 .left) (c .if2 .taken)
+    sym (first-fault fiveWords 32 (a .fault) (a .rows .now) (a .n) (a .counts .now) (c .before .before .if1 .left) (c .if2 .taken))
 
 slice-aggregate-make : tie.Need-slice-aggregate-make
 slice-aggregate-make c = search needs

@@ -15,6 +15,7 @@ use Rattle.trie.specs.Routes.{Route as BitRoute}
 use Rattle.refusals.specs.Refusals.{accepted}
 use Rattle.refusals.specs.Reply.{Reply}
 use Rattle.refusals.specs.declared.Answer.{Answer}
+use Rattle.refusals.specs.declared.found.Found.{Found}
 use Rattle.routes.specs.Routes.{routeAt}
 use Rattle.lists.specs.Numbered.{listOf, inOrder}
 use Rattle.routes.specs.Check.{faultAt, firstFault, routesCheck, listCheck}
@@ -26,16 +27,19 @@ use Rattle.table_rules.specs.Check.{isGood}
 use Rattle.table_rules.specs.Save.{saveInto}
 use Rattle.table_rules.proofs.Good.{check-is-good}
 use Rattle.table_update.specs.Calls.{buildInto}
+use Rattle.many_rules.specs.Many.{lookupMany}
+use Rattle.many_rules.proofs.Many.{many-done}
 use Rattle.image_rules.specs.Image.{someLonger}
 use Rattle.image_rules.specs.Lookup as image
 use Rattle.image_rules.specs.Lookup.{lookupWords}
+use Rattle.image_lookup.specs.Many.{manyWords}
 use Rattle.image_build.specs.Build.{Left, left, doneBuild, buildImage}
 use Rattle.runs_rules.specs.Runs.{Run, run, Lists}
 use Rattle.runs_rules.specs.Listing.{writeRuns}
 use Rattle.runs_rules.proofs.Listing.{listed-lists, listed-none, list-runs-done}
 use Rattle.table_runs.specs.TableRuns.{tableRoutes, tableRuns}
 use Rattle.segment_rules.specs.Tables.{firstSize}
-use Rattle.segment_rules.specs.Build.{Stores, buildSegments}
+use Rattle.segment_rules.specs.Build.{Stores, buildSegments, lookupStores}
 use Rattle.octets.specs.Bytes.{digits}
 use Rattle.message_rules.specs.Written.{writeMessage}
 use Rattle.message_calls.specs.History.{message}
@@ -52,6 +56,7 @@ use Rattle.demands.proofs.OfLists.{read-refuses, write-refuses, check-r
 use Rattle.demands.proofs.OfTables.{table-check-refuses, build-refuses, save-refuses, table-runs-refuses}
 use Rattle.demands.proofs.OfImages.{image-build-refuses, image-lookup-refuses}
 use Rattle.demands.proofs.OfSegments.{segments-build-refuses, words-on}
+use Rattle.demands.proofs.OfMany.{many-refuses, image-many-refuses, many-strided}
 use Rattle.demands.proofs.OfMessages.{withdrawal-refuses}
 use Rattle.demands.proofs.OfCounts.{make-refuses, update-refuses, fresh-is-plain}
 use Rattle.demands.proofs.Messages.{nothing, nothing-bytes, nothing-applied}
@@ -152,6 +157,15 @@ nothing-counted =
     (fresh-is-plain [] 0 (message nothing 1) (check-is-good 32 0 (rowAt []) 0 .0 no-rows-good .0) (check-is-good 32 0 (rowAt []) 0 .0 no-rows-good .1) .0)
     ∙ nothing-applied
 
+-- one address, with room for its element
+one-with-room : (look : ℕ → Found) → lookupMany look (0 ∷ []) (0 ∷ []) .answer .number ≡ 0
+one-with-room look = ap (λ (o : Outcome Answer). o .answer .number) (many-done look (0 ∷ []) (0 ∷ []) (omega arith))
+
+one-looked : manyWords 32 1 (3 ∷ 1 ∷ []) (0 ∷ 0 ∷ []) (0 ∷ []) (0 ∷ []) .answer .number ≡ 0
+one-looked =
+    ap (λ (o : Outcome Answer). o .answer .number) (many-strided 32 1 (3 ∷ 1 ∷ []) (0 ∷ 0 ∷ []) (0 ∷ []) (0 ∷ []) refl)
+    ∙ one-with-room (lookupWords 32 1 (3 ∷ 1 ∷ []) (0 ∷ 0 ∷ []))
+
 pub no-call-refuses-all : NoCallRefusesAll
 unfolding isGood saveInto rowAt storeRow
 no-call-refuses-all B d =
@@ -210,8 +224,26 @@ no-call-refuses-all B d =
             (image-lookup-refuses 32 1 (3 ∷ 1 ∷ []) (0 ∷ 0 ∷ []) 0 .exact) .0
             ∙ image-found,
       );
+      image-lookup-many = (
+        1,
+        3 ∷ 1 ∷ [],
+        0 ∷ 0 ∷ [],
+        0 ∷ [],
+        0 ∷ [],
+        λ o m. D .image-lookup-many 1 (0 ∷ []) (0 ∷ []) _ _ _ _ (d .image-lookup-many 1 (3 ∷ 1 ∷ []) (0 ∷ 0 ∷ []) (0 ∷ []) (0 ∷ []) o m .exact)
+            (image-many-refuses 32 1 (3 ∷ 1 ∷ []) (0 ∷ 0 ∷ []) (0 ∷ []) (0 ∷ []) .exact) .0
+            ∙ one-looked,
+      );
       segments-build = ([], zeroStores, segments-built B d zeroStores zeros-roomy);
       segments-lookup = (zeroStores, 0, segments-found B d zeroStores zeros-bits (zeros-roomy .first) refl);
+      segments-lookup-many = (
+        zeroStores,
+        0 ∷ [],
+        0 ∷ [],
+        λ o m. D .segments-lookup-many (0 ∷ []) (0 ∷ []) _ _ _ _ (d .segments-lookup-many zeroStores (0 ∷ []) (0 ∷ []) o m .exact)
+            (many-refuses (lookupStores zeroStores) (0 ∷ []) (0 ∷ []) .exact) .0
+            ∙ one-with-room (lookupStores zeroStores),
+      );
       segments-entries = ([], [], 0, λ x m. d .segments-entries [] [] 0 x m .exact .0);
       message-write = (
         [],

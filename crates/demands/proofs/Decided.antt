@@ -6,7 +6,7 @@ use Prim.Native.Nat.{ℕ}
 use lib.Dec.{eqb}
 use borrow.Author.Tests.{eqb-false}
 use Rattle.demands.specs.Lamp.{Verdict, shows, whether, Decides, Without}
-use Rattle.demands.specs.Demands.{Demand1Decides, EntriesDecided}
+use Rattle.demands.specs.EachCall.{Demand1Decides, EntriesDecided}
 use Rattle.demands.specs.Unused.{unused, NoThirteen}
 use Rattle.demands.proofs.EachCall.{each-call}
 
@@ -52,8 +52,10 @@ no-thirteen B d =
       table-runs = λ rows n runs o c. no .table-runs rows n runs _ _ (d .table-runs rows n runs o c .exact);
       image-build = λ s list nodes ports x c. no .image-build s list nodes ports _ _ (d .image-build s list nodes ports x c .exact);
       image-lookup = λ s nodes ports a x c. no .image-lookup s nodes ports a _ _ (d .image-lookup s nodes ports a x c .exact);
+      image-lookup-many = λ s nodes ports addresses out o c. no .image-lookup-many s addresses out _ _ (d .image-lookup-many s nodes ports addresses out o c .exact);
       segments-build = λ list lent x c. no .segments-build list lent _ _ (d .segments-build list lent x c .exact);
       segments-lookup = λ s a x bits c. no .segments-lookup s a _ _ (d .segments-lookup s a x bits c .exact);
+      segments-lookup-many = λ s addresses out o c. no .segments-lookup-many addresses out _ _ (d .segments-lookup-many s addresses out o c .exact);
       segments-entries = λ packed plain entry x c. no .segments-entries _ _ (d .segments-entries packed plain entry x c .exact);
       message-write = λ list message o c. no .message-write list message _ _ (d .message-write list message o c .exact);
       counts-make = λ rows n counts o c. no .counts-make rows n counts _ _ (d .counts-make rows n counts o c .exact);

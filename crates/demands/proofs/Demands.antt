@@ -3,7 +3,7 @@ use mathlib.Core.Path.{_≡_, refl, sym, ap, subst, _∙_}
 use mathlib.Core.Logic.{_⊎_, inl, inr, ⊎-elim}
 use mathlib.Core.Bool.{true, false, cond, false≢true}
 use mathlib.Core.List.{List, [], _∷_}
-use Prim.Native.Nat.{ℕ, _*_, _%_, _^_, _≤_, _<_}
+use Prim.Native.Nat.{ℕ, _+_, _*_, _/_, _%_, _^_, _≤_, _<_}
 use native.Mathlib.Omega.{arith}
 use lib.Dec.{eqb, leb}
 use lib.ListN.{length, getD, take, drop}
@@ -41,9 +41,11 @@ use Rattle.table_rows.proofs.Words.{words-stores}
 use Rattle.table_update.proofs.BuildIsGood.{built-lookup-is-scan}
 use Rattle.table_update.proofs.BuildIsHistory.{build-accepted}
 use Rattle.image_rules.specs.Lookup.{isStride, Strided, lookupWords}
+use Rattle.image_rules.specs.Image.{passed}
 use Rattle.image_rules.specs.NodesRead.{ReadsAndNumber}
+use Rattle.image_rules.proofs.Walk.{ports-le}
 use Rattle.image_rules.proofs.NodesRead.{lookup-reads as image-reads-are}
-use Rattle.image_build.specs.Build.{Left, buildImage}
+use Rattle.image_build.specs.Build.{Left, listRoutes, buildImage}
 use Rattle.image_build.proofs.Scanned.{built-is-scan}
 use Rattle.runs_rules.specs.Runs.{runs}
 use Rattle.runs_rules.proofs.Runs.{listing-unique, listing-exists}
@@ -54,6 +56,8 @@ use Rattle.segment_rules.specs.Build as segments
 use Rattle.segment_rules.specs.Build.{Stores, lookupStores}
 use Rattle.segment_rules.specs.Tables.{plainPointer}
 use Rattle.segment_rules.specs.Parts.{entriesOf}
+use Rattle.segment_rules.specs.Theorems.{readsOf}
+use Rattle.segment_rules.proofs.Lent.{ports-le as segment-ports-le}
 use Rattle.segment_rules.proofs.Walk.{reads-le as segment-reads-le}
 use Rattle.segment_rules.proofs.AfterBuild.{built-is-scan as segments-built-is-scan}
 use Rattle.count_rules.specs.Counted.{Counted}
@@ -70,6 +74,7 @@ use Rattle.demands.proofs.OfLists.{read-refuses, write-refuses, check-r
 use Rattle.demands.proofs.OfTables.{table-check-refuses, lookup-refuses, build-refuses, save-refuses, table-runs-refuses}
 use Rattle.demands.proofs.OfImages.{building, image-build-refuses, image-lookup-refuses}
 use Rattle.demands.proofs.OfSegments.{segmenting, segments-build-refuses, words-on, entries-stand}
+use Rattle.demands.proofs.OfMany.{many-refuses, image-many-refuses, many-strided, many-done-strided, elements-are, all-found}
 use Rattle.demands.proofs.OfMessages.{withdrawal-refuses}
 use Rattle.demands.proofs.OfCounts.{booking, make-refuses, update-refuses}
 use Rattle.demands.proofs.Entries.{entries-there, entries-built}
@@ -167,6 +172,13 @@ demand-1 B f = record {
   image-reads = λ s nodes ports a x m.
       subst (λ (y : Reply). ReadsAndNumber 32 s nodes ports a (readCount y) (y .number)) (sym (f .image-lookup s nodes ports a x m))
       (image-reads-are 32 s nodes ports a);
+  image-lookup-many = λ s nodes ports addresses out o m.
+      laid-whole _ 0 out o _ (f .image-lookup-many s nodes ports addresses out o m) (image-many-refuses 32 s nodes ports addresses out);
+  image-elements = λ s nodes ports addresses out o m z.
+      let is = f .image-lookup-many s nodes ports addresses out o m in
+      let stride = many-done-strided 32 s nodes ports addresses out (sym (ap (λ (p : Outcome Reply). p .answer .number) is) ∙ z) in
+      elements-are (lookupWords 32 s nodes ports) (B .image-lookup s nodes ports) (f .image-lookup s nodes ports) addresses out o
+      (is ∙ ap replied (many-strided 32 s nodes ports addresses out stride)) z;
   segments-build = λ list lent x m. laid-segments _ lent x _ (f .segments-build list lent x m) (segments-build-refuses list lent);
   segments-lookup = λ s a x bits m. laid-found _ x _ (f .segments-lookup s a x m) (words-on (λ _. 0) s a bits);
   segments-reads = λ s a x m.
@@ -174,6 +186,10 @@ demand-1 B f = record {
         subst (λ (y : Reply). readCount y ≤ 4) (sym is) (segment-reads-le (s .first) (s .packed) (s .plain) (s .last) a),
         λ bits. subst (λ (y : Reply). segmentReads s a (y .number) (readCount y)) (sym is) (words-on (λ reads. reads) s a bits .exact),
       );
+  segments-lookup-many = λ s addresses out o m.
+      laid-whole _ 0 out o _ (f .segments-lookup-many s addresses out o m) (many-refuses (lookupStores s) addresses out);
+  segments-elements = λ s addresses out o m z.
+      elements-are (lookupStores s) (B .segments-lookup s) (f .segments-lookup s) addresses out o (f .segments-lookup-many s addresses out o m) z;
   segments-entries = λ packed plain entry x m.
       subst (demands.Refuses done (0 ∷ 0 ∷ [])) (sym (f .segments-entries packed plain entry x m))
       (record { exact = (refl, refl); kept = λ wrong. absurd (wrong refl) });
@@ -265,6 +281,28 @@ module _ (B : Boundary) (f : Follows B) where
         f .segments-lookup (b .stores) a x l
         ∙ ap (λ (y : Segmented). looked (lookupStores (y .stores) a)) is
         ∙ ap looked (segments-built-is-scan list lent a fits done small);
+    image-many = λ s list nodes ports b xs out o fits small room m z l.
+        let is = f .image-build s list nodes ports b m in
+        let done = sym (ap (λ (y : Imaged). y .reply .number) is) ∙ z in
+        let stride = image-strided s list nodes ports done in
+        let R = routeAt list in
+        f .image-lookup-many s (b .nodes) (b .ports) xs out o l
+        ∙ ap replied
+        (many-strided 32 s (b .nodes) (b .ports) xs out stride
+        ∙ all-found (lookupWords 32 s (b .nodes) (b .ports)) (λ i. scanOf 32 R (routeCount list) (getD xs i 0))
+        (λ i. passed (listRoutes 32 list) s (32 / s) [] (bits 32 (getD xs i 0)) + 1) xs out room
+        (λ i. ap (λ (y : Imaged). lookupWords 32 s (y .nodes) (y .ports) (getD xs i 0)) is
+        ∙ built-is-scan 32 s list nodes ports (getD xs i 0) (strided s stride) fits (small i) done)
+        (ports-le 32 s (b .nodes) (b .ports)));
+    segments-many = λ list lent b xs out o fits small room m z l.
+        let is = f .segments-build list lent b m in
+        let done = sym (ap (λ (y : Segmented). y .reply .number) is) ∙ z in
+        let R = routeAt list in
+        f .segments-lookup-many (b .stores) xs out o l
+        ∙ ap replied
+        (all-found (lookupStores (b .stores)) (λ i. scanOf 32 R (routeCount list) (getD xs i 0)) (λ i. readsOf R (routeCount list) (getD xs i 0)) xs out room
+        (λ i. ap (λ (y : Segmented). lookupStores (y .stores) (getD xs i 0)) is ∙ segments-built-is-scan list lent (getD xs i 0) fits done (small i))
+        (segment-ports-le (b .stores .first) (b .stores .packed) (b .stores .plain) (b .stores .last)));
     segment-entries = λ list lent b i x fits below m z l.
         let is = f .segments-build list lent b m in
         let done = sym (ap (λ (y : Segmented). y .reply .number) is) ∙ z in

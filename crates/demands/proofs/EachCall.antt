@@ -21,7 +21,7 @@ use Rattle.demands.specs.MessageChecks.{eachPrefix, messageChecks}
 use Rattle.table_update.specs.History.{announcing, withdrawing}
 use Rattle.message_calls.specs.History.{Event, single, message}
 use Rattle.demands.specs.CountChecks.{stepChecks, afterRoom}
-use Rattle.demands.specs.Demands.{EachCall}
+use Rattle.demands.specs.EachCall.{EachCall}
 use Rattle.demands.specs.Unused.{unused}
 
 module _ (Such : Verdict → Type 0) (shown : (number place : ℕ) → eqb number unused ≡ false → Such (shows number place))
@@ -112,10 +112,12 @@ module _ (Such : Verdict → Type 0) (shown : (number place : ℕ) → eqb numbe
     table-runs = λ rows n runs. check _ _ _ _ refl (last-check _ _ refl);
     image-build = λ s list nodes ports. check _ _ _ _ refl (of-list 32 list _ (last-check _ _ refl));
     image-lookup = λ s nodes ports a. check _ _ _ _ refl (of-nodes s nodes ports a (32 / s) 1);
+    image-lookup-many = λ s addresses out. check _ _ _ _ refl (last-check _ _ refl);
     segments-build = λ list lent.
         of-list 32 list _ (check _ _ _ _ refl (check _ _ _ _ refl (check _ _ _ _ refl (last-check _ _ refl))));
     segments-lookup = λ s a. of-words (λ _. 0) s a;
     segments-reads = λ s a. of-words (λ reads. reads) s a;
+    segments-lookup-many = λ addresses out. last-check _ _ refl;
     segments-entries = accepts;
     message-write = λ list message. of-list 32 list _ (last-check _ _ refl);
     counts-make = λ rows n counts. check _ _ _ _ refl (last-check _ _ refl);

@@ -17,7 +17,9 @@ use Rattle.table_rules.specs.Save.{saveInto}
 use Rattle.table_lookup.specs.Good.{tableCheck}
 use Rattle.table_update.specs.Calls.{buildInto}
 use Rattle.table_update.specs.History.{announcing, withdrawing}
+use Rattle.many_rules.specs.Many.{lookupMany}
 use Rattle.image_rules.specs.Lookup.{lookupWords}
+use Rattle.image_lookup.specs.Many.{manyWords}
 use Rattle.image_build.specs.Build.{buildImage}
 use Rattle.runs_rules.specs.Listing.{listRuns}
 use Rattle.table_runs.specs.TableRuns.{tableRuns}
@@ -43,8 +45,10 @@ pub record Follows (B : Boundary) : Type 0 where
   pub table-runs : (rows : List ℕ) (n : ℕ) (runs : List ℕ) (o : Outcome Reply) → B .table-runs rows n runs o → o ≡ replied (tableRuns 32 (capacity rows) (rowAt rows) n runs)
   pub image-build : (s : ℕ) (list nodes ports : List ℕ) (x : Imaged) → B .image-build s list nodes ports x → x ≡ repliedImage (buildImage 32 s list nodes ports)
   pub image-lookup : (s : ℕ) (nodes ports : List ℕ) (a : ℕ) (x : Reply) → B .image-lookup s nodes ports a x → x ≡ looked (lookupWords 32 s nodes ports a)
+  pub image-lookup-many : (s : ℕ) (nodes ports addresses out : List ℕ) (o : Outcome Reply) → B .image-lookup-many s nodes ports addresses out o → o ≡ replied (manyWords 32 s nodes ports addresses out)
   pub segments-build : (list : List ℕ) (lent : Stores) (x : Segmented) → B .segments-build list lent x → x ≡ repliedSegments (buildSegments list lent)
   pub segments-lookup : (s : Stores) (a : ℕ) (x : Reply) → B .segments-lookup s a x → x ≡ looked (lookupStores s a)
+  pub segments-lookup-many : (s : Stores) (addresses out : List ℕ) (o : Outcome Reply) → B .segments-lookup-many s addresses out o → o ≡ replied (lookupMany (lookupStores s) addresses out)
   pub segments-entries : (packed plain : List ℕ) (entry : ℕ) (x : Reply) → B .segments-entries packed plain entry x → x ≡ located (partOf (length packed) (length plain) entry)
   pub message-write : (list message : List ℕ) (o : Outcome Reply) → B .message-write list message o → o ≡ replied (writeMessage 32 list message)
   pub counts-make : (rows : List ℕ) (n : ℕ) (counts : List ℕ) (o : Outcome Reply) → B .counts-make rows n counts o → o ≡ repliedPlace (makeCounts fiveWords 32 rows n counts)
@@ -89,8 +93,10 @@ exports-follow = record {
   table-runs = λ rows n runs o m. sym (m .4) ∙ m .0 .meets ∙ (λ j. replied (tableRuns 32 (capacity (m .1 j)) (rowAt (m .1 j)) (m .2 j) (m .3 j)));
   image-build = λ s list nodes ports x m. sym (m .5) ∙ m .0 .meets ∙ (λ j. repliedImage (buildImage 32 (m .1 j) (m .2 j) (m .3 j) (m .4 j)));
   image-lookup = looked-up-follows;
+  image-lookup-many = λ s nodes ports addresses out o m. sym (m .6) ∙ m .0 .meets ∙ (λ j. replied (manyWords 32 (m .1 j) (m .2 j) (m .3 j) (m .4 j) (m .5 j)));
   segments-build = λ list lent x m. sym (m .3) ∙ m .0 .meets ∙ (λ j. repliedSegments (buildSegments (m .1 j) (m .2 j)));
   segments-lookup = λ s a x m. sym (m .3) ∙ m .0 .meets ∙ (λ j. looked (lookupStores (m .1 j) (m .2 j)));
+  segments-lookup-many = λ s addresses out o m. sym (m .4) ∙ m .0 .meets ∙ (λ j. replied (lookupMany (lookupStores (m .1 j)) (m .2 j) (m .3 j)));
   segments-entries = λ packed plain entry x m. sym (m .4) ∙ m .0 .meets ∙ (λ j. located (partOf (length (m .1 j)) (length (m .2 j)) (m .3 j)));
   message-write = λ list message o m. sym (m .3) ∙ m .0 .meets ∙ (λ j. replied (writeMessage 32 (m .1 j) (m .2 j)));
   counts-make = λ rows n counts o m. sym (m .4) ∙ m .0 .meets ∙ (λ j. repliedPlace (makeCounts fiveWords 32 (m .1 j) (m .2 j) (m .3 j)));

@@ -9,7 +9,7 @@ use native.Mathlib.Nat.{zero-add}
 use lib.Dec.{eqb}
 use lib.ListN.{length, getD, replicate}
 use borrow.Author.Tests.{lt-ltb}
-use Rattle.promise.specs.Over.{Outcome}
+use Rattle.promise.specs.Over.{Outcome, outcome, over}
 use Rattle.lists.proofs.Tests.{either, lt-or-le}
 use Rattle.lists.proofs.Below.{number-zero}
 use Rattle.bits.specs.Bits.{Bits, bits, same}
@@ -18,8 +18,8 @@ use Rattle.prefix.specs.Prefixes.{prefix}
 use Rattle.trie.specs.Routes.{Routes, noRoutes, side}
 use Rattle.trie.specs.Scan.{longest, plainScan, orElse, scan}
 use Rattle.trie.proofs.Scan.{scan-none}
-use Rattle.refusals.specs.Refusals.{found as answered}
-use Rattle.refusals.specs.Reply.{Reply, looked}
+use Rattle.refusals.specs.Refusals.{accepted, found as answered}
+use Rattle.refusals.specs.Reply.{Reply, looked, replied}
 use Rattle.lists.specs.Numbered.{listOf}
 use Rattle.routes.specs.Routes.{route, routeAt, routeCount, Words}
 use Rattle.routes.specs.Scan.{scanOf}
@@ -50,11 +50,11 @@ use Rattle.segment_rules.specs.Build.{Stores, buildSegments}
 use Rattle.maftehon.specs.Reply.{Imaged, Segmented}
 use Rattle.demands.specs.Boundary.{Boundary, result, readCount, Ends}
 use Rattle.demands.specs.History.{Step, left, emptyTable, portSince, heldBy}
-use Rattle.demands.specs.Demands.{CountsAre, Demands}
+use Rattle.demands.specs.Demands.{scannedAll, CountsAre, Demands}
 use Rattle.demands.specs.Checks.{NoPort, NotHeld}
 use Rattle.demands.specs.CountChecks.{StaleCounts, updateChecks}
 use Rattle.demands.specs.MessageChecks.{TooMany}
-use Rattle.demands.specs.Impostors.{AppliesAnnouncementsAlone, StopsAtTheFirst, IgnoresAnnouncements, IgnoresWithdrawals, FixedPort, FixedPortOfImage, FixedPortOfSegments, ImpostorsStopped}
+use Rattle.demands.specs.Impostors.{AppliesAnnouncementsAlone, StopsAtTheFirst, IgnoresAnnouncements, IgnoresWithdrawals, FixedPort, FixedPortOfImage, FixedPortOfSegments, FixedElements, FixedElementsOfSegments, ImpostorsStopped}
 use Rattle.demands.proofs.Decided.{demand-1-decides}
 use Rattle.demands.proofs.OfTables.{build-refuses}
 use Rattle.demands.proofs.OfImages.{image-build-refuses}
@@ -226,6 +226,11 @@ module _ (B : Boundary) (ends : Ends B) (d : Demands B) where
       (subst (λ (rows : List ℕ). GoodFor 32 (capacity rows) (rowAt rows) (left gone .count) (heldBy (first ∷ gone ∷ []))) (kept .0) gone-good))
       first-held gone-held
 
+-- one address, 0
+zero-words : Words 32 (0 ∷ [])
+zero-words zero = omega arith
+zero-words (suc i) = omega arith
+
 -- Builds from no route, and from the whole space to port 1, are accepted; so lookups in what they leave are to answer 0, and 1.
 module _ (B : Boundary) (ends : Ends B) (d : Demands B) where
   module _ (list rows : List ℕ) (words : Words 32 list) (fine : buildInto fiveWords 32 list rows .answer .number ≡ 0) where
@@ -259,6 +264,20 @@ module _ (B : Boundary) (ends : Ends B) (d : Demands B) where
         (image-build-refuses 32 1 list nodes ports .exact) .0
         ∙ fine
 
+    abbrev oneSeen : (o : Outcome Reply) × B .image-lookup-many 1 (imaged .nodes) (imaged .ports) (0 ∷ []) (0 ∷ []) o
+    oneSeen = ends .image-lookup-many 1 (imaged .nodes) (imaged .ports) (0 ∷ []) (0 ∷ [])
+
+    one-seen-scan : oneSeen .0 ≡ replied (outcome (accepted 0) (over (scannedAll list (0 ∷ [])) (0 ∷ [])))
+    one-seen-scan =
+        d .two .image-many 1 list nodes ports imaged (0 ∷ []) (0 ∷ []) (oneSeen .0) words zero-words (omega arith) (ends .image-build 1 list nodes ports .1) imaged-done
+        (oneSeen .1)
+
+    fixed-is-element : (fixed : FixedElements B) → fixed .0 ≡ scanOf 32 (routeAt list) (routeCount list) 0
+    unfolding listOf
+    fixed-is-element fixed =
+        sym (fixed .1 1 (imaged .nodes) (imaged .ports) (0 ∷ []) (0 ∷ []) (oneSeen .0) (oneSeen .1) (ap (λ (o : Outcome Reply). o .answer .number) one-seen-scan) 0 (omega arith))
+        ∙ ap (λ (o : Outcome Reply). getD (o .lent) 0 0) one-seen-scan
+
     abbrev seen : (x : Reply) × B .image-lookup 1 (imaged .nodes) (imaged .ports) 0 x
     seen = ends .image-lookup 1 (imaged .nodes) (imaged .ports) 0
 
@@ -279,6 +298,19 @@ module _ (B : Boundary) (ends : Ends B) (d : Demands B) where
         (d .one .segments-build list lent segmented (ends .segments-build list lent .1) .exact)
         (segments-build-refuses list lent .exact) .0
         ∙ fine
+
+    abbrev oneGot : (o : Outcome Reply) × B .segments-lookup-many (segmented .stores) (0 ∷ []) (0 ∷ []) o
+    oneGot = ends .segments-lookup-many (segmented .stores) (0 ∷ []) (0 ∷ [])
+
+    one-got-scan : oneGot .0 ≡ replied (outcome (accepted 0) (over (scannedAll list (0 ∷ [])) (0 ∷ [])))
+    one-got-scan =
+        d .two .segments-many list lent segmented (0 ∷ []) (0 ∷ []) (oneGot .0) words zero-words (omega arith) (ends .segments-build list lent .1) segmented-done (oneGot .1)
+
+    fixed-is-segment-element : (fixed : FixedElementsOfSegments B) → fixed .0 ≡ scanOf 32 (routeAt list) (routeCount list) 0
+    unfolding listOf
+    fixed-is-segment-element fixed =
+        sym (fixed .1 (segmented .stores) (0 ∷ []) (0 ∷ []) (oneGot .0) (oneGot .1) (ap (λ (o : Outcome Reply). o .answer .number) one-got-scan) 0 (omega arith))
+        ∙ ap (λ (o : Outcome Reply). getD (o .lent) 0 0) one-got-scan
 
     abbrev got : (x : Reply) × B .segments-lookup (segmented .stores) 0 x
     got = ends .segments-lookup (segmented .stores) 0
@@ -547,6 +579,22 @@ impostors-stopped = record {
         fixed-is-segment-scan B ends d [] zeroStores no-words (no-routes-segmented zeroStores zeros-roomy) fixed,
         no-routes-scanned,
         fixed-is-segment-scan B ends d wholeSpace zeroStores whole-space-words (whole-space-segmented zeroStores zeros-roomy) fixed,
+        whole-space-scanned,
+      );
+  fixed-elements = λ B ends d fixed.
+      omega (
+        arith,
+        fixed-is-element B ends d [] (replicate 2 0) (replicate 2 0) no-words (ap (λ (x : Left). x .built .number) no-routes-imaged) fixed,
+        no-routes-scanned,
+        fixed-is-element B ends d wholeSpace (replicate 2 0) (replicate 2 0) whole-space-words (ap (λ (x : Left). x .built .number) whole-space-imaged) fixed,
+        whole-space-scanned,
+      );
+  fixed-elements-of-segments = λ B ends d fixed.
+      omega (
+        arith,
+        fixed-is-segment-element B ends d [] zeroStores no-words (no-routes-segmented zeroStores zeros-roomy) fixed,
+        no-routes-scanned,
+        fixed-is-segment-element B ends d wholeSpace zeroStores whole-space-words (whole-space-segmented zeroStores zeros-roomy) fixed,
         whole-space-scanned,
       );
   untouched-by-announcing = λ B ends d untouched. later-announced B ends d (λ rows n counts q x some. untouched rows n counts q x);

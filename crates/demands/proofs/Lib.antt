@@ -6,6 +6,7 @@ pub mod OfLists
 pub mod OfTables
 pub mod OfImages
 pub mod OfSegments
+pub mod OfMany
 pub mod OfMessages
 pub mod OfCounts
 pub mod Messages

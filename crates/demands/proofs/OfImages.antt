@@ -26,7 +26,7 @@ use Rattle.demands.proofs.Shown.{View, On, looking, on-test, on-whether
 use Rattle.demands.proofs.Listed.{on-list}
 
 -- "stride not 1, 2 or 4"
-tells-stride : (s : ℕ) → Tells (isStride s) ((s ≡ 1 → ⊥) × (s ≡ 2 → ⊥) × (s ≡ 4 → ⊥))
+pub tells-stride : (s : ℕ) → Tells (isStride s) ((s ≡ 1 → ⊥) × (s ≡ 2 → ⊥) × (s ≡ 4 → ⊥))
 tells-stride s = go (eqb s 1) (eqb s 2) (eqb s 4) (tells-eq s 1) (tells-eq s 2) (tells-eq s 4)
   where
     go : (a b c : Bool) → Tells a (s ≡ 1 → ⊥) → Tells b (s ≡ 2 → ⊥) → Tells c (s ≡ 4 → ⊥)

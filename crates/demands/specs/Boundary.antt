@@ -23,8 +23,10 @@ pub record Boundary : Type 1 where
   pub table-runs : (rows : List ℕ) (n : ℕ) (runs : List ℕ) → Outcome Reply → Type 0
   pub image-build : (stride : ℕ) (list nodes ports : List ℕ) → Imaged → Type 0
   pub image-lookup : (stride : ℕ) (nodes ports : List ℕ) (address : ℕ) → Reply → Type 0
+  pub image-lookup-many : (stride : ℕ) (nodes ports addresses out : List ℕ) → Outcome Reply → Type 0
   pub segments-build : (list : List ℕ) (lent : Stores) → Segmented → Type 0
   pub segments-lookup : (stores : Stores) (address : ℕ) → Reply → Type 0
+  pub segments-lookup-many : (stores : Stores) (addresses out : List ℕ) → Outcome Reply → Type 0
   pub segments-entries : (packed plain : List ℕ) (entry : ℕ) → Reply → Type 0
   pub message-write : (list message : List ℕ) → Outcome Reply → Type 0
   pub counts-make : (rows : List ℕ) (n : ℕ) (counts : List ℕ) → Outcome Reply → Type 0
@@ -55,8 +57,11 @@ pub record Ends (B : Boundary) : Type 0 where
   pub table-runs : (rows : List ℕ) (n : ℕ) (runs : List ℕ) → (o : Outcome Reply) × B .table-runs rows n runs o
   pub image-build : (s : ℕ) (list nodes ports : List ℕ) → (x : Imaged) × B .image-build s list nodes ports x
   pub image-lookup : (s : ℕ) (nodes ports : List ℕ) (a : ℕ) → (x : Reply) × B .image-lookup s nodes ports a x
+  pub image-lookup-many :
+      (s : ℕ) (nodes ports addresses out : List ℕ) → (o : Outcome Reply) × B .image-lookup-many s nodes ports addresses out o
   pub segments-build : (list : List ℕ) (lent : Stores) → (x : Segmented) × B .segments-build list lent x
   pub segments-lookup : (s : Stores) (a : ℕ) → (x : Reply) × B .segments-lookup s a x
+  pub segments-lookup-many : (s : Stores) (addresses out : List ℕ) → (o : Outcome Reply) × B .segments-lookup-many s addresses out o
   pub segments-entries : (packed plain : List ℕ) (entry : ℕ) → (x : Reply) × B .segments-entries packed plain entry x
   pub message-write : (list message : List ℕ) → (o : Outcome Reply) × B .message-write list message o
   pub counts-make : (rows : List ℕ) (n : ℕ) (counts : List ℕ) → (o : Outcome Reply) × B .counts-make rows n counts o

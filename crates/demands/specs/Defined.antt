@@ -11,7 +11,9 @@ use Rattle.table_rules.specs.Lookup.{lookupIn}
 use Rattle.table_rules.specs.Save.{saveInto}
 use Rattle.table_lookup.specs.Good.{tableCheck}
 use Rattle.table_update.specs.Calls.{buildInto}
+use Rattle.many_rules.specs.Many.{lookupMany}
 use Rattle.image_rules.specs.Lookup.{lookupWords}
+use Rattle.image_lookup.specs.Many.{manyWords}
 use Rattle.image_build.specs.Build.{buildImage}
 use Rattle.runs_rules.specs.Listing.{listRuns}
 use Rattle.table_runs.specs.TableRuns.{tableRuns}
@@ -37,8 +39,10 @@ defined = record {
   table-runs = λ rows n runs o. o ≡ replied (tableRuns 32 (capacity rows) (rowAt rows) n runs);
   image-build = λ s list nodes ports x. x ≡ repliedImage (buildImage 32 s list nodes ports);
   image-lookup = λ s nodes ports a x. x ≡ looked (lookupWords 32 s nodes ports a);
+  image-lookup-many = λ s nodes ports addresses out o. o ≡ replied (manyWords 32 s nodes ports addresses out);
   segments-build = λ list lent x. x ≡ repliedSegments (buildSegments list lent);
   segments-lookup = λ s a x. x ≡ looked (lookupStores s a);
+  segments-lookup-many = λ s addresses out o. o ≡ replied (lookupMany (lookupStores s) addresses out);
   segments-entries = λ packed plain entry x. x ≡ located (partOf (length packed) (length plain) entry);
   message-write = λ list message o. o ≡ replied (writeMessage 32 list message);
   counts-make = λ rows n counts o. o ≡ repliedPlace (makeCounts fiveWords 32 rows n counts);

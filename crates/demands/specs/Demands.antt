@@ -7,6 +7,7 @@ use Prim.Native.Nat.{ℕ, _+_, _*_, _/_, _^_, _≤_, _<_}
 use lib.Dec.{leb}
 use lib.ListN.{length, getD, take, drop}
 use Rattle.promise.specs.Over.{Outcome, outcome, over}
+use Rattle.lists.specs.Numbered.{listOf}
 use Rattle.bits.specs.Bits.{bits}
 use Rattle.trie.specs.Routes.{Routes}
 use Rattle.trie.specs.Scan.{scan}
@@ -34,9 +35,10 @@ use Rattle.segment_rules.specs.Build.{Stores}
 use Rattle.message_calls.specs.History.{Event, EventFits}
 use Rattle.count_rules.specs.Tally.{ports, addresses, total}
 use Rattle.maftehon.specs.Reply.{Imaged, Segmented, Booked}
-use Rattle.demands.specs.Lamp.{Verdict, done, Lamp, Decides}
+use Rattle.demands.specs.Lamp.{Verdict, done, Lamp}
 use Rattle.demands.specs.Checks.{listChecks, readChecks, writeChecks, orderChecks, buildChecks, saveChecks, lookupChecks, imageChecks, imageLookupChecks, listRunsChecks, tableRunsChecks}
 use Rattle.demands.specs.SegmentChecks.{segmentChecks, SixteenBits, segmentLookupChecks, segmentReads, entriesStand}
+use Rattle.demands.specs.ManyChecks.{manyChecks, imageManyChecks, EachElement}
 use Rattle.demands.specs.MessageChecks.{withdrawalChecks}
 use Rattle.demands.specs.CountChecks.{makeChecks, updateChecks}
 use Rattle.demands.specs.Boundary.{Boundary, place, result, readCount}
@@ -95,6 +97,13 @@ pub record Demand1 (B : Boundary) : Type 0 where
   pub image-reads :
       (s : ℕ) (nodes ports : List ℕ) (a : ℕ) (x : Reply) → B .image-lookup s nodes ports a x
       → ReadsAndNumber 32 s nodes ports a (readCount x) (x .number)
+  pub image-lookup-many :
+      (s : ℕ) (nodes ports addresses out : List ℕ) (o : Outcome Reply) → B .image-lookup-many s nodes ports addresses out o
+      → RefusesWhole (imageManyChecks s addresses out) (0 ∷ []) out o
+  -- "or 65,535 where that lookup answers 11": done, it left what the single lookups say
+  pub image-elements :
+      (s : ℕ) (nodes ports addresses out : List ℕ) (o : Outcome Reply) → B .image-lookup-many s nodes ports addresses out o
+      → o .answer .number ≡ 0 → EachElement (B .image-lookup s nodes ports) addresses out o
   pub segments-build :
       (list : List ℕ) (lent : Stores) (x : Segmented) → B .segments-build list lent x
       → Lamp (segmentChecks list lent) (x .reply .number) (place (x .reply))
@@ -106,6 +115,12 @@ pub record Demand1 (B : Boundary) : Type 0 where
   pub segments-reads :
       (s : Stores) (a : ℕ) (x : Reply) → B .segments-lookup s a x
       → (readCount x ≤ 4) × (SixteenBits s → segmentReads s a (x .number) (readCount x))
+  pub segments-lookup-many :
+      (s : Stores) (addresses out : List ℕ) (o : Outcome Reply) → B .segments-lookup-many s addresses out o
+      → RefusesWhole (manyChecks addresses out) (0 ∷ []) out o
+  pub segments-elements :
+      (s : Stores) (addresses out : List ℕ) (o : Outcome Reply) → B .segments-lookup-many s addresses out o
+      → o .answer .number ≡ 0 → EachElement (B .segments-lookup s) addresses out o
   -- the debug page's call refuses nothing: "none if the first-table entry given names no segment in its store"
   pub segments-entries :
       (packed plain : List ℕ) (entry : ℕ) (x : Reply) → B .segments-entries packed plain entry x → Refuses done (0 ∷ 0 ∷ []) x
@@ -122,34 +137,9 @@ pub record Demand1 (B : Boundary) : Type 0 where
       (rows : List ℕ) (n : ℕ) (counts : List ℕ) (e : Event) (x : Booked) → EventFits 32 e → B .update rows n counts e x
       → RefusesBook (updateChecks 32 rows n counts e) n rows counts x
 
--- the checks of every call are such
-pub record EachCall (Such : Verdict → Type 0) : Type 0 where
-  pub file-read : (file list : List ℕ) → Such (readChecks 32 file list)
-  pub file-write : (list file : List ℕ) → Such (writeChecks 32 list file)
-  pub list-check : (list : List ℕ) → Such (listChecks 32 list done)
-  pub list-runs : (list runs : List ℕ) → Such (listRunsChecks 32 list runs)
-  pub table-check : (rows : List ℕ) (n : ℕ) → Such (orderChecks 32 rows n done)
-  pub table-lookup : (rows : List ℕ) (n a : ℕ) → Such (lookupChecks 32 rows n a)
-  pub table-build : (list rows : List ℕ) → Such (buildChecks 32 list rows)
-  pub table-save : (rows : List ℕ) (n : ℕ) (list : List ℕ) → Such (saveChecks 32 rows n list)
-  pub table-runs : (rows : List ℕ) (n : ℕ) (runs : List ℕ) → Such (tableRunsChecks 32 rows n runs)
-  pub image-build : (s : ℕ) (list nodes ports : List ℕ) → Such (imageChecks 32 s list nodes ports)
-  pub image-lookup : (s : ℕ) (nodes ports : List ℕ) (a : ℕ) → Such (imageLookupChecks 32 s nodes ports a)
-  pub segments-build : (list : List ℕ) (lent : Stores) → Such (segmentChecks list lent)
-  pub segments-lookup : (s : Stores) (a : ℕ) → Such (segmentLookupChecks s a)
-  pub segments-reads : (s : Stores) (a : ℕ) → Such (segmentReads s a)
-  pub segments-entries : Such done
-  pub message-write : (list message : List ℕ) → Such (withdrawalChecks 32 list message)
-  pub counts-make : (rows : List ℕ) (n : ℕ) (counts : List ℕ) → Such (makeChecks 32 rows n counts)
-  pub update : (rows : List ℕ) (n : ℕ) (counts : List ℕ) (e : Event) → Such (updateChecks 32 rows n counts e)
-
--- "exactly in the listed case": the checks of a call leave no choice, so that no other number or place would do
-abbrev pub Demand1Decides : Type 0
-Demand1Decides = EachCall Decides
-
--- nor is there a choice where the entries of a segment stand
-abbrev pub EntriesDecided : Type 0
-EntriesDecided = (packed plain : List ℕ) (entry : ℕ) → Decides (entriesStand packed plain entry)
+-- the plain scan's port of each of these addresses
+abbrev pub scannedAll : List ℕ → List ℕ → List ℕ
+scannedAll list addresses = listOf (λ i. scanOf 32 (routeAt list) (routeCount list) (getD addresses i 0)) (length addresses) 0
 
 -- DEMAND 2. "Both tries, built from a valid list, give for each of the 2^32 addresses the port that a plain scan gives (longest match,
 -- RFC 4632; 0 if none)." A build that returned 0 had a valid list, by demand 1; the lookup is handed what the build left. Stronger:
@@ -173,6 +163,15 @@ pub record Demand2 (B : Boundary) : Type 0 where
       (list : List ℕ) (lent : Stores) (b : Segmented) (a : ℕ) (x : Reply) → Words 32 list → a < 2 ^ 32
       → B .segments-build list lent b → b .reply .number ≡ 0 → B .segments-lookup (b .stores) a x
       → x ≡ looked (found (scanOf 32 (routeAt list) (routeCount list) a) (readsOf (routeAt list) (routeCount list) a))
+  -- many lookups in one call: every element is the plain scan's port, and none is 65,535
+  pub image-many :
+      (s : ℕ) (list nodes ports : List ℕ) (b : Imaged) (xs out : List ℕ) (o : Outcome Reply) → Words 32 list → Words 32 xs
+      → length xs ≤ length out → B .image-build s list nodes ports b → b .reply .number ≡ 0
+      → B .image-lookup-many s (b .nodes) (b .ports) xs out o → o ≡ replied (outcome (accepted 0) (over (scannedAll list xs) out))
+  pub segments-many :
+      (list : List ℕ) (lent : Stores) (b : Segmented) (xs out : List ℕ) (o : Outcome Reply) → Words 32 list → Words 32 xs
+      → length xs ≤ length out → B .segments-build list lent b → b .reply .number ≡ 0
+      → B .segments-lookup-many (b .stores) xs out o → o ≡ replied (outcome (accepted 0) (over (scannedAll list xs) out))
   -- handed the entry of the first sixteen bits i; "out of the plain store or the packed one"
   pub segment-entries :
       (list : List ℕ) (lent : Stores) (b : Segmented) (i : ℕ) (x : Reply) → Words 32 list → i < 2 ^ 16

@@ -42,10 +42,14 @@ use Rattle.maftehon.proofs.images.mft_image_lookup_1.Kinds as image-lookup-1-ki
 use Rattle.maftehon.proofs.images.mft_image_lookup_1.Reads as image-lookup-1
 use Rattle.maftehon.proofs.images.mft_image_lookup_2.Reads as image-lookup-2
 use Rattle.maftehon.proofs.images.mft_image_lookup_4.Reads as image-lookup-4
+use Rattle.maftehon.proofs.images.mft_image_lookup_many.Kinds as image-lookup-many-kinds
+use Rattle.maftehon.proofs.images.mft_image_lookup_many.Reads as image-lookup-many
 use Rattle.maftehon.proofs.segments.mft_segments_build.Kinds as segments-build-kinds
 use Rattle.maftehon.proofs.segments.mft_segments_build.Reads as segments-build
 use Rattle.maftehon.proofs.segments.mft_segments_lookup.Kinds as segments-lookup-kinds
 use Rattle.maftehon.proofs.segments.mft_segments_lookup.Reads as segments-lookup
+use Rattle.maftehon.proofs.segments.mft_segments_lookup_many.Kinds as segments-lookup-many-kinds
+use Rattle.maftehon.proofs.segments.mft_segments_lookup_many.Reads as segments-lookup-many
 use Rattle.maftehon.proofs.segments.mft_segments_entries.Kinds as segments-entries-kinds
 use Rattle.maftehon.proofs.segments.mft_segments_entries.Reads as segments-entries
 use Rattle.maftehon.proofs.messages.mft_message_write.Kinds as message-write-kinds
@@ -142,6 +146,11 @@ exports = record {
       LookedBy stride nodes ports address x
       ⊎ (((stride ≡ 1) × LookedAt image-lookup-1.Post nodes ports address x)
       ⊎ (((stride ≡ 2) × LookedAt image-lookup-2.Post nodes ports address x) ⊎ ((stride ≡ 4) × LookedAt image-lookup-4.Post nodes ports address x)));
+  image-lookup-many = λ stride nodes ports addresses out o.
+      (c : Made 5 image-lookup-many-kinds.ps image-lookup-many-kinds.r image-lookup-many.Post)
+      × (c .args .0 ≡ stride) × (now (c .args .1 .0) ≡ nodes) × (now (c .args .1 .1 .0) ≡ ports) × (now (c .args .1 .1 .1 .0) ≡ addresses)
+      × (now (c .args .1 .1 .1 .1 .0) ≡ out)
+      × (outcome (reply (c .result) (now (c .exit .1 .1 .1 .1 .1 .0))) (now (c .exit .1 .1 .1 .1 .0)) ≡ o);
   segments-build = λ list lent x.
       (c : Made 6 segments-build-kinds.ps segments-build-kinds.r segments-build.Post)
       × (now (c .args .0) ≡ list)
@@ -153,6 +162,11 @@ exports = record {
       (c : Made 5 segments-lookup-kinds.ps segments-lookup-kinds.r segments-lookup.Post)
       × (stores (now (c .args .0)) (now (c .args .1 .0)) (now (c .args .1 .1 .0)) (now (c .args .1 .1 .1 .0)) ≡ s) × (c .args .1 .1 .1 .1 .0 ≡ address)
       × (reply (c .result) (now (c .exit .1 .1 .1 .1 .1 .0)) ≡ x);
+  segments-lookup-many = λ s addresses out o.
+      (c : Made 7 segments-lookup-many-kinds.ps segments-lookup-many-kinds.r segments-lookup-many.Post)
+      × (stores (now (c .args .0)) (now (c .args .1 .0)) (now (c .args .1 .1 .0)) (now (c .args .1 .1 .1 .0)) ≡ s)
+      × (now (c .args .1 .1 .1 .1 .0) ≡ addresses) × (now (c .args .1 .1 .1 .1 .1 .0) ≡ out)
+      × (outcome (reply (c .result) (now (c .exit .1 .1 .1 .1 .1 .1 .0))) (now (c .exit .1 .1 .1 .1 .1 .0)) ≡ o);
   segments-entries = λ packed plain entry x.
       (c : Made 3 segments-entries-kinds.ps segments-entries-kinds.r segments-entries.Post)
       × (now (c .args .0) ≡ packed) × (now (c .args .1 .0) ≡ plain) × (c .args .1 .1 .0 ≡ entry)

@@ -3,7 +3,7 @@
 use mathlib.Core.Path.{_≡_}
 use mathlib.Core.List.{List, []}
 use Prim.Native.Nat.{ℕ, _+_, _/_, _^_, _≤_, _<_}
-use lib.ListN.{getD}
+use lib.ListN.{length, getD}
 use Rattle.promise.specs.Over.{Outcome}
 use Rattle.bits.specs.Bits.{bits}
 use Rattle.trie.specs.Trie.{Trie, IsTrie, reads}
@@ -50,6 +50,19 @@ FixedPortOfImage B =
 
 abbrev pub FixedPortOfSegments : Boundary → Type 0
 FixedPortOfSegments B = (port : ℕ) × ((s : Stores) (a : ℕ) (x : Reply) → B .segments-lookup s a x → x .number ≡ 0 → result x ≡ port)
+
+-- in every element of many lookups in one call
+abbrev pub FixedElements : Boundary → Type 0
+FixedElements B =
+    (port : ℕ)
+    × ((s : ℕ) (nodes ports addresses out : List ℕ) (o : Outcome Reply) → B .image-lookup-many s nodes ports addresses out o → o .answer .number ≡ 0
+    → (i : ℕ) → i < length addresses → getD (o .lent) i 0 ≡ port)
+
+abbrev pub FixedElementsOfSegments : Boundary → Type 0
+FixedElementsOfSegments B =
+    (port : ℕ)
+    × ((s : Stores) (addresses out : List ℕ) (o : Outcome Reply) → B .segments-lookup-many s addresses out o → o .answer .number ≡ 0
+    → (i : ℕ) → i < length addresses → getD (o .lent) i 0 ≡ port)
 
 -- "one takes the first announcement and ignores the later calls": what it accepts leaves the rows as they were, whatever it says of n
 abbrev pub IgnoresAnnouncements : Boundary → Type 0
@@ -157,6 +170,8 @@ pub record ImpostorsStopped : Type 1 where
   pub fixed-port : Stopped FixedPort
   pub fixed-port-of-image : Stopped FixedPortOfImage
   pub fixed-port-of-segments : Stopped FixedPortOfSegments
+  pub fixed-elements : Stopped FixedElements
+  pub fixed-elements-of-segments : Stopped FixedElementsOfSegments
   pub untouched-by-announcing : Stopped UntouchedByAnnouncing
   pub untouched-by-withdrawing : Stopped UntouchedByWithdrawing
   pub first-announcement-only : Stopped IgnoresAnnouncements
@@ -189,8 +204,14 @@ pub record EachAccepts (B : Boundary) : Type 0 where
       × ((x : Imaged) → B .image-build s list nodes ports x → x .reply .number ≡ 0)
   pub image-lookup :
       (s : ℕ) × (nodes : List ℕ) × (ports : List ℕ) × (a : ℕ) × ((x : Reply) → B .image-lookup s nodes ports a x → x .number ≡ 0)
+  pub image-lookup-many :
+      (s : ℕ) × (nodes : List ℕ) × (ports : List ℕ) × (addresses : List ℕ) × (out : List ℕ)
+      × ((o : Outcome Reply) → B .image-lookup-many s nodes ports addresses out o → o .answer .number ≡ 0)
   pub segments-build : (list : List ℕ) × (lent : Stores) × ((x : Segmented) → B .segments-build list lent x → x .reply .number ≡ 0)
   pub segments-lookup : (s : Stores) × (a : ℕ) × ((x : Reply) → B .segments-lookup s a x → x .number ≡ 0)
+  pub segments-lookup-many :
+      (s : Stores) × (addresses : List ℕ) × (out : List ℕ)
+      × ((o : Outcome Reply) → B .segments-lookup-many s addresses out o → o .answer .number ≡ 0)
   pub segments-entries :
       (packed : List ℕ) × (plain : List ℕ) × (entry : ℕ) × ((x : Reply) → B .segments-entries packed plain entry x → x .number ≡ 0)
   pub message-write :

@@ -5,9 +5,11 @@ pub mod SegmentChecks
 pub mod MessageChecks
 pub mod CountChecks
 pub mod Boundary
+pub mod ManyChecks
 pub mod Exports
 pub mod History
 pub mod Demands
+pub mod EachCall
 pub mod Unused
 pub mod Defined
 pub mod Impostors

@@ -33,9 +33,14 @@ pub record NeverAnswers (B : Boundary) (number : ℕ) : Type 0 where
       (s : ℕ) (list nodes ports : List ℕ) (x : Imaged) → B .image-build s list nodes ports x → x .reply .number ≡ number → ⊥
   pub image-lookup :
       (s : ℕ) (nodes ports : List ℕ) (a : ℕ) (x : Reply) → B .image-lookup s nodes ports a x → x .number ≡ number → ⊥
+  pub image-lookup-many :
+      (s : ℕ) (nodes ports addresses out : List ℕ) (o : Outcome Reply) → B .image-lookup-many s nodes ports addresses out o
+      → o .answer .number ≡ number → ⊥
   pub segments-build : (list : List ℕ) (lent : Stores) (x : Segmented) → B .segments-build list lent x → x .reply .number ≡ number → ⊥
   pub segments-lookup :
       (s : Stores) (a : ℕ) (x : Reply) → SixteenBits s → B .segments-lookup s a x → x .number ≡ number → ⊥
+  pub segments-lookup-many :
+      (s : Stores) (addresses out : List ℕ) (o : Outcome Reply) → B .segments-lookup-many s addresses out o → o .answer .number ≡ number → ⊥
   pub segments-entries :
       (packed plain : List ℕ) (entry : ℕ) (x : Reply) → B .segments-entries packed plain entry x → x .number ≡ number → ⊥
   pub message-write : (list message : List ℕ) (o : Outcome Reply) → B .message-write list message o → o .answer .number ≡ number → ⊥

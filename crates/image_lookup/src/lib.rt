@@ -20,6 +20,8 @@ use refusals::WRONG_STRIDE;
 use refusals::found::Found;
 use routes::LAST_PORT;
 
+pub mod many;
+
 // A port as a word.
 fn word(x: u16) -> u32
     ensures { λ r. ⌜ r ≡ x ⌝ }

@@ -10,6 +10,7 @@ use Rattle.bits.specs.Bits.{Bits, bits}
 use Rattle.bits.specs.Bitmap.{slotBit}
 use Rattle.trie.specs.Routes.{Route, held}
 use Rattle.trie.specs.Scan.{scan}
+use Rattle.routes.specs.Bounds.{lastPort}
 use Rattle.routes.specs.Routes.{ValidList}
 use Rattle.routes.specs.Scan.{scanOf}
 use Rattle.routes.specs.declared.Route.{Route as ListRoute}
@@ -42,6 +43,10 @@ LookupIsListScan =
 -- "At most 32/s nodes are read": on any words
 abbrev pub ReadsLe : Type 0
 ReadsLe = (w s : ℕ) (nodes ports : List ℕ) (a : ℕ) → lookupWords w s nodes ports a .reads ≤ w / s
+
+-- "a port above 4094" is never answered: on any words
+abbrev pub PortsLe : Type 0
+PortsLe = (w s : ℕ) (nodes ports : List ℕ) (a : ℕ) → lookupWords w s nodes ports a .port ≤ lastPort
 
 -- "numbered from 1 breadth first, left to right": after the root stand the children of node 1, of node 2, and so on
 abbrev pub Numbered : Type 0

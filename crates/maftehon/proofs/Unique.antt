@@ -37,10 +37,14 @@ use Rattle.maftehon.proofs.images.mft_image_lookup_2.Kinds as image-loo
 use Rattle.maftehon.proofs.images.mft_image_lookup_2.Reads as image-lookup-2-reads
 use Rattle.maftehon.proofs.images.mft_image_lookup_4.Kinds as image-lookup-4-kinds
 use Rattle.maftehon.proofs.images.mft_image_lookup_4.Reads as image-lookup-4-reads
+use Rattle.maftehon.proofs.images.mft_image_lookup_many.Kinds as image-lookup-many-kinds
+use Rattle.maftehon.proofs.images.mft_image_lookup_many.Reads as image-lookup-many-reads
 use Rattle.maftehon.proofs.segments.mft_segments_build.Kinds as segments-build-kinds
 use Rattle.maftehon.proofs.segments.mft_segments_build.Reads as segments-build-reads
 use Rattle.maftehon.proofs.segments.mft_segments_lookup.Kinds as segments-lookup-kinds
 use Rattle.maftehon.proofs.segments.mft_segments_lookup.Reads as segments-lookup-reads
+use Rattle.maftehon.proofs.segments.mft_segments_lookup_many.Kinds as segments-lookup-many-kinds
+use Rattle.maftehon.proofs.segments.mft_segments_lookup_many.Reads as segments-lookup-many-reads
 use Rattle.maftehon.proofs.segments.mft_segments_entries.Kinds as segments-entries-kinds
 use Rattle.maftehon.proofs.segments.mft_segments_entries.Reads as segments-entries-reads
 use Rattle.maftehon.proofs.messages.mft_message_write.Kinds as message-write-kinds
@@ -99,11 +103,17 @@ image-lookup-2-unique κs a x y s t p q = p ∙ sym q
 image-lookup-4-unique : Determined 3 image-lookup-4-kinds.ps image-lookup-4-kinds.r image-lookup-4-reads.Post (λ κs x s. reply x (now (s .1 .1 .1 .0)))
 image-lookup-4-unique κs a x y s t p q = p ∙ sym q
 
+image-lookup-many-unique : Determined 5 image-lookup-many-kinds.ps image-lookup-many-kinds.r image-lookup-many-reads.Post (λ κs x s. outcome (reply x (now (s .1 .1 .1 .1 .1 .0))) (now (s .1 .1 .1 .1 .0)))
+image-lookup-many-unique κs a x y s t p q = p ∙ sym q
+
 segments-build-unique : Determined 6 segments-build-kinds.ps segments-build-kinds.r segments-build-reads.Post (λ κs x s. segmented (reply x (now (s .1 .1 .1 .1 .1 .0))) (stores (now (s .1 .0)) (now (s .1 .1 .0)) (now (s .1 .1 .1 .0)) (now (s .1 .1 .1 .1 .0))))
 segments-build-unique κs a x y s t p q = p ∙ sym q
 
 segments-lookup-unique : Determined 5 segments-lookup-kinds.ps segments-lookup-kinds.r segments-lookup-reads.Post (λ κs x s. reply x (now (s .1 .1 .1 .1 .1 .0)))
 segments-lookup-unique κs a x y s t p q = p ∙ sym q
+
+segments-lookup-many-unique : Determined 7 segments-lookup-many-kinds.ps segments-lookup-many-kinds.r segments-lookup-many-reads.Post (λ κs x s. outcome (reply x (now (s .1 .1 .1 .1 .1 .1 .0))) (now (s .1 .1 .1 .1 .1 .0)))
+segments-lookup-many-unique κs a x y s t p q = p ∙ sym q
 
 segments-entries-unique : Determined 3 segments-entries-kinds.ps segments-entries-kinds.r segments-entries-reads.Post (λ κs x s. reply x (now (s .1 .1 .1 .0)))
 segments-entries-unique κs a x y s t p q = p ∙ sym q

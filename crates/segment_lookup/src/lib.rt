@@ -18,6 +18,8 @@ use segment_rules::POINTER;
 use segment_rules::Part;
 use segment_rules::ones_through;
 
+pub mod many;
+
 // The entries of a packed block, after its codewords.
 const MOST_KEPT: usize = 64;
 

@@ -26,6 +26,9 @@ pub struct Difference {
 /// All there are.
 const ADDRESSES: u64 = 1 << 32;
 
+/// The element of an address whose lookup is refused, where many are looked up in one call.
+const UNFOUND: u16 = 65_535;
+
 /// A large input or output is not printed whole: the seed makes it again.
 const SHOWN_LAST: usize = 400;
 
@@ -250,6 +253,45 @@ impl<'a> Checker<'a> {
         Ok(given?.0)
     }
 
+    /// The elements of `out` are afterwards what the right library leaves, and those of the addresses are also to be what
+    /// the tried library's own single lookups make.
+    pub fn image_lookup_many(
+        &mut self,
+        stride: u32,
+        nodes: &[u32],
+        ports: &[u16],
+        addresses: &[u32],
+        out: &mut [u16],
+    ) -> Compared<Answer<2>> {
+        let lent = ((Lent::of(nodes), Lent::of(ports)), (Lent::of(addresses), Lent::of(out)));
+        let argument = (stride, addresses, out.len());
+        let (answer, (_, (_, left))) =
+            self.one("image_lookup_many", lent, argument, |library, ((nodes, ports), (addresses, out))| {
+                (library.image_lookup_many)(stride, nodes.all(), ports.all(), addresses.all(), out.all_mut())
+            })?;
+        out.copy_from_slice(left.all());
+        single_lookups_agree("image_lookup_many", addresses, answer, out, |address| {
+            (self.tried.image_lookup)(stride, nodes, ports, address)
+        })?;
+        Ok(answer)
+    }
+
+    /// The elements of `out` are afterwards what the right library leaves, and those of the addresses are also to be what
+    /// the tried library's own single lookups make.
+    pub fn segments_lookup_many(&mut self, stores: &Stores, addresses: &[u32], out: &mut [u16]) -> Compared<Answer<2>> {
+        let lent = (stores.each_ref().map(|store| Lent::of(store)), (Lent::of(addresses), Lent::of(out)));
+        let argument = (addresses, out.len());
+        let (answer, (_, (_, left))) =
+            self.one("segments_lookup_many", lent, argument, |library, (stores, (addresses, out))| {
+                (library.segments_lookup_many)(stores.each_ref().map(Lent::all), addresses.all(), out.all_mut())
+            })?;
+        out.copy_from_slice(left.all());
+        single_lookups_agree("segments_lookup_many", addresses, answer, out, |address| {
+            (self.tried.segments_lookup)(stores.each_ref().map(Vec::as_slice), address)
+        })?;
+        Ok(answer)
+    }
+
     pub fn message_write(&mut self, list: &[u32], room: usize) -> Compared<(Answer<2>, Vec<u8>)> {
         let lent = (Lent::of(list), Lent::room(room));
         let (answer, (_, message)) = self.one("message_write", lent, (list, room), |library, (list, message)| {
@@ -357,6 +399,35 @@ impl<'a> Checker<'a> {
             return Err(Difference::new("table_save", &(n,), what));
         }
         Ok(())
+    }
+}
+
+/// What a call that was done has answered and left for these addresses is to be what their single lookups make.
+fn single_lookups_agree(
+    call: &'static str,
+    addresses: &[u32],
+    answer: Answer<2>,
+    out: &[u16],
+    lookup: impl Fn(u32) -> Answer<3>,
+) -> Compared<()> {
+    if answer.number != 0 {
+        return Ok(());
+    }
+    let elements: Vec<u16> = addresses.iter().map(|address| element_of(lookup(*address))).collect();
+    let some_unfound = u32::from(elements.contains(&UNFOUND));
+    if !out.starts_with(&elements) || answer.answer != [0, some_unfound] {
+        let what =
+            format!("answered {answer:?} and left {}, and its single lookups make {}", shown(&out), shown(&elements));
+        return Err(Difference::new(call, &addresses, what));
+    }
+    Ok(())
+}
+
+/// What a single lookup makes of the element of its address.
+fn element_of(found: Answer<3>) -> u16 {
+    match found {
+        Answer { number: 0, answer: [_, port, _] } => port as u16,
+        _ => UNFOUND,
     }
 }
 

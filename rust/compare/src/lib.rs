@@ -11,6 +11,6 @@ mod seeds;
 mod tally;
 
 pub use checker::{Checker, Compared, Difference};
-pub use library::{CountedAnnounce, CountedMessage, Library, PROVED, REFERENCE};
+pub use library::{CountedAnnounce, CountedMessage, ImageLookupMany, Library, SegmentsLookupMany, PROVED, REFERENCE};
 pub use seeds::{first_seed, on_seeds};
 pub use tally::Tally;

@@ -3,6 +3,10 @@
 use maftehon::calls::{self, Reply};
 use reference::Answer;
 
+/// Stride, nodes, ports, addresses, out.
+pub type ImageLookupMany = fn(u32, &[u32], &[u16], &[u32], &mut [u16]) -> Answer<2>;
+/// First, packed, plain and last, addresses, out.
+pub type SegmentsLookupMany = fn([&[u16]; 4], &[u32], &mut [u16]) -> Answer<2>;
 /// Rows, n, value, length, port, counts.
 pub type CountedAnnounce = fn(&mut [u32], u32, u32, u32, u32, &mut [u64]) -> Answer<2>;
 /// Message, port, rows, n, counts.
@@ -29,6 +33,8 @@ pub struct Library {
     pub segments_lookup: fn([&[u16]; 4], u32) -> Answer<3>,
     /// The stores are packed and plain.
     pub segments_entries: fn([&[u16]; 2], u32) -> Answer<3>,
+    pub image_lookup_many: ImageLookupMany,
+    pub segments_lookup_many: SegmentsLookupMany,
     pub message_write: fn(&[u32], &mut [u8]) -> Answer<2>,
     pub counts_make: fn(&[u32], u32, &mut [u64]) -> Answer<1>,
     pub counted_announce: CountedAnnounce,
@@ -56,6 +62,10 @@ pub const REFERENCE: Library = Library {
         reference::segments_lookup(first, packed, plain, last, address)
     },
     segments_entries: |[packed, plain], entry| reference::segments_entries(packed, plain, entry),
+    image_lookup_many: reference::image_lookup_many,
+    segments_lookup_many: |[first, packed, plain, last], addresses, out| {
+        reference::segments_lookup_many(first, packed, plain, last, addresses, out)
+    },
     message_write: reference::message_write,
     counts_make: reference::counts_make,
     counted_announce: reference::counted_announce,
@@ -91,6 +101,12 @@ pub const PROVED: Library = Library {
         of(calls::segments_lookup(first, packed, plain, last, address))
     },
     segments_entries: |[packed, plain], entry| of(calls::segments_entries(packed, plain, entry)),
+    image_lookup_many: |stride, nodes, ports, addresses, out| {
+        of(calls::image_lookup_many(stride, nodes, ports, addresses, out))
+    },
+    segments_lookup_many: |[first, packed, plain, last], addresses, out| {
+        of(calls::segments_lookup_many(first, packed, plain, last, addresses, out))
+    },
     message_write: |list, message| of(calls::message_write(list, message)),
     counts_make: |rows, n, counts| of(calls::counts_make(rows, n, counts)),
     counted_announce: |rows, n, value, length, port, counts| {

@@ -40,7 +40,7 @@ impl Tally {
 impl fmt::Display for Tally {
     fn fmt(&self, formatter: &mut fmt::Formatter) -> fmt::Result {
         for (call, numbers) in &self.calls {
-            write!(formatter, "{call:<16} {:>10} calls:", numbers.iter().sum::<u64>())?;
+            write!(formatter, "{call:<20} {:>10} calls:", numbers.iter().sum::<u64>())?;
             for (number, count) in numbers.iter().enumerate().filter(|(_, count)| **count > 0) {
                 match number {
                     0 => write!(formatter, " done {count}")?,

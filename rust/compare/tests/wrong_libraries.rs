@@ -1,6 +1,7 @@
 //! The comparison itself: libraries that are wrong in one call are told from the reference.
 
 mod counts;
+mod many;
 mod messages;
 mod segments;
 mod walk;
@@ -10,9 +11,13 @@ use reference::Answer;
 use walk::{Read, Walk, RIGHT};
 use workload::{clear_spare_bits, Random};
 
-/// The first difference that the scenarios find within a few seeds.
+/// The first difference from the reference that the scenarios find within a few seeds.
 fn difference(wrong: &Library) -> Option<String> {
-    let mut checker = Checker::new(wrong, &REFERENCE);
+    difference_between(wrong, &REFERENCE)
+}
+
+fn difference_between(tried: &Library, right: &Library) -> Option<String> {
+    let mut checker = Checker::new(tried, right);
     let run = |seed: u64, checker: &mut Checker| -> Compared<()> {
         scenarios::ALL.iter().try_for_each(|(_, scenario)| scenario(checker, &mut Random::new(seed), 12))
     };

@@ -147,6 +147,34 @@ unsafe extern "C" {
         answer: *mut u32,
     ) -> u32;
 
+    pub fn mft_image_lookup_many(
+        stride: u32,
+        nodes: *const u32,
+        node_words: usize,
+        ports: *const u16,
+        port_count: usize,
+        addresses: *const u32,
+        address_count: usize,
+        out: *mut u16,
+        out_count: usize,
+        answer: *mut u32,
+    ) -> u32;
+    pub fn mft_segments_lookup_many(
+        first: *const u16,
+        first_count: usize,
+        packed: *const u16,
+        packed_count: usize,
+        plain: *const u16,
+        plain_count: usize,
+        last: *const u16,
+        last_count: usize,
+        addresses: *const u32,
+        address_count: usize,
+        out: *mut u16,
+        out_count: usize,
+        answer: *mut u32,
+    ) -> u32;
+
     pub fn mft_message_write(
         list: *const u32,
         list_words: usize,

@@ -172,6 +172,54 @@ pub fn segments_entries(packed: &[u16], plain: &[u16], entry: u32) -> Reply<3> {
     })
 }
 
+/// Looks many addresses up in any image: the port of each in the element of `out` with its number, or 65,535 where
+/// [`image_lookup`] answers 11. Answer: place, 1 if some element is 65,535, else 0.
+pub fn image_lookup_many(stride: u32, nodes: &[u32], ports: &[u16], addresses: &[u32], out: &mut [u16]) -> Reply<2> {
+    reply(|answer| unsafe {
+        sys::mft_image_lookup_many(
+            stride,
+            nodes.as_ptr(),
+            nodes.len(),
+            ports.as_ptr(),
+            ports.len(),
+            addresses.as_ptr(),
+            addresses.len(),
+            out.as_mut_ptr(),
+            out.len(),
+            answer,
+        )
+    })
+}
+
+/// Looks many addresses up in any segment tables: the port of each in the element of `out` with its number, or 65,535
+/// where [`segments_lookup`] answers 11. Answer: place, 1 if some element is 65,535, else 0.
+pub fn segments_lookup_many(
+    first: &[u16],
+    packed: &[u16],
+    plain: &[u16],
+    last: &[u16],
+    addresses: &[u32],
+    out: &mut [u16],
+) -> Reply<2> {
+    reply(|answer| unsafe {
+        sys::mft_segments_lookup_many(
+            first.as_ptr(),
+            first.len(),
+            packed.as_ptr(),
+            packed.len(),
+            plain.as_ptr(),
+            plain.len(),
+            last.as_ptr(),
+            last.len(),
+            addresses.as_ptr(),
+            addresses.len(),
+            out.as_mut_ptr(),
+            out.len(),
+            answer,
+        )
+    })
+}
+
 /// Writes the UPDATE message that withdraws the prefixes of a list. Answer: place, bytes written.
 pub fn message_write(list: &[u32], message: &mut [u8]) -> Reply<2> {
     reply(|answer| unsafe {

@@ -87,6 +87,57 @@ impl Image {
         }
     }
 
+    /// The port of each address, all in one call; 0 where no route matches. It is for stored measurements, of which some
+    /// millions are to be sorted anew.
+    ///
+    /// An address is the number that [`u32::from`] makes of an [`Ipv4Addr`]. The library reads the addresses where they
+    /// stand, as numbers, and an `Ipv4Addr` has its octets in network order, so that a slice of these would have to be
+    /// copied. A port is a bare number likewise, and is written where it stays: an `Option<u16>` takes twice the memory.
+    ///
+    /// ```
+    /// use maftehon::{Image, RouteList, Stride};
+    /// use std::net::Ipv4Addr;
+    ///
+    /// let list = RouteList::from_routes(&["10.0.0.0/8 7".parse()?, "10.1.0.0/16 9".parse()?])?;
+    /// let image = Image::build(&list, Stride::Four);
+    /// let measured = [Ipv4Addr::new(10, 1, 2, 3), Ipv4Addr::new(11, 0, 0, 0), Ipv4Addr::new(10, 2, 3, 4)];
+    /// let addresses: Vec<u32> = measured.into_iter().map(u32::from).collect();
+    /// assert_eq!(image.lookup_many(&addresses), [9, 0, 7]);
+    /// # Ok::<(), Box<dyn std::error::Error>>(())
+    /// ```
+    pub fn lookup_many(&self, addresses: &[u32]) -> Vec<u16> {
+        let mut ports = vec![0; addresses.len()];
+        self.look_many(addresses, &mut ports).done();
+        ports
+    }
+
+    /// [`Image::lookup_many`] into memory that the caller has, and can use again: the first elements of `ports`, as
+    /// many as there are addresses. The rest stays as it was.
+    ///
+    /// ```
+    /// use maftehon::{Image, Refusal, RouteList, Stride};
+    ///
+    /// let image = Image::build(&RouteList::from_routes(&["10.0.0.0/8 7".parse()?])?, Stride::Four);
+    /// let mut ports = [1; 3];
+    /// image.lookup_many_into(&[0x0A01_0203, 0x0B00_0000], &mut ports)?;
+    /// assert_eq!(ports, [7, 0, 1]);
+    /// assert_eq!(image.lookup_many_into(&[0; 4], &mut ports), Err(Refusal::NoRoom));
+    /// # Ok::<(), Box<dyn std::error::Error>>(())
+    /// ```
+    ///
+    /// # Errors
+    ///
+    /// - 9, [`Refusal::NoRoom`]: there are more addresses than `ports` has elements.
+    pub fn lookup_many_into(&self, addresses: &[u32], ports: &mut [u16]) -> Result<(), Refusal> {
+        self.look_many(addresses, ports).of_whole()?;
+        Ok(())
+    }
+
+    /// A built image has no lookup that answers 11, so none of the elements is 65,535.
+    fn look_many(&self, addresses: &[u32], out: &mut [u16]) -> Reply<2> {
+        calls::image_lookup_many(self.stride as u32, &self.nodes, &self.ports, addresses, out)
+    }
+
     /// How many nodes it has.
     pub fn node_count(&self) -> usize {
         self.nodes.len() / NODE_WORDS

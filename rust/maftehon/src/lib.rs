@@ -3,9 +3,9 @@
 //! [`RouteList`], [`Table`], [`Image`] and [`SegmentTables`] own their memory and are always valid, so that most calls
 //! cannot be refused; what can be answers a [`Refusal`] and changes nothing. A table takes routes one by one, or by the
 //! UPDATE message of RFC 4271, and a list gives the message that withdraws it. A table also knows how many addresses go
-//! to each port. A [`Route`] and its [`Prefix`] are read from the text that they print, and a text that is none answers
-//! a [`ParseError`]. [`calls`] has the calls of the C boundary one for one, on memory that the caller lends, and
-//! [`sys`] the boundary itself, with its numbers by name.
+//! to each port. Images and segment tables also look many addresses up in one call. A [`Route`] and its [`Prefix`] are
+//! read from the text that they print, and a text that is none answers a [`ParseError`]. [`calls`] has the calls of the
+//! C boundary one for one, on memory that the caller lends, and [`sys`] the boundary itself, with its numbers by name.
 //!
 //! ```
 //! use maftehon::{Image, RouteList, SegmentTables, Stride, Table};
@@ -19,6 +19,7 @@
 //! assert_eq!(image.lookup(address).port, Some(9));
 //! assert_eq!(segments.lookup(address).port, Some(9));
 //! assert_eq!(table.lookup(address).port, Some(9));
+//! assert_eq!(image.lookup_many(&[address.into(), 0]), [9, 0]);
 //! assert_eq!(table.addresses(Some(9)), 65_536);
 //! assert_eq!(table.runs(), list.runs());
 //! # Ok::<(), Box<dyn std::error::Error>>(())

@@ -195,7 +195,7 @@ impl<const N: usize> Reply<N> {
         self.result(if names_a_route { Place::Route(self.answer[0]) } else { Place::Whole })
     }
 
-    /// Of a call on one route or on a table.
+    /// Of a call on one route, on a table, or on many addresses.
     pub(crate) fn of_whole(self) -> Result<[u32; N], Refusal> {
         self.result(Place::Whole)
     }

@@ -1,8 +1,9 @@
 //! Segment tables: entries by the first sixteen bits, the third octet and the fourth, built afresh from a list and
 //! read-only.
 
-use crate::calls;
+use crate::calls::{self, Reply};
 use crate::list::RouteList;
+use crate::refusal::Refusal;
 use crate::route::Found;
 use std::net::Ipv4Addr;
 
@@ -58,6 +59,53 @@ impl SegmentTables {
     #[inline]
     pub fn lookup(&self, address: Ipv4Addr) -> Found {
         Found::of(calls::segments_lookup(&self.first, &self.packed, &self.plain, &self.last, address.into()).done())
+    }
+
+    /// The port of each address, all in one call; 0 where no route matches. Addresses and ports are bare numbers, as they
+    /// are to [`Image::lookup_many`](crate::Image::lookup_many), which says why.
+    ///
+    /// ```
+    /// use maftehon::{RouteList, SegmentTables};
+    /// use std::net::Ipv4Addr;
+    ///
+    /// let list = RouteList::from_routes(&["10.0.0.0/8 7".parse()?, "10.1.128.0/17 9".parse()?])?;
+    /// let tables = SegmentTables::build(&list);
+    /// let measured = [Ipv4Addr::new(10, 1, 200, 4), Ipv4Addr::new(11, 0, 0, 0), Ipv4Addr::new(10, 2, 3, 4)];
+    /// let addresses: Vec<u32> = measured.into_iter().map(u32::from).collect();
+    /// assert_eq!(tables.lookup_many(&addresses), [9, 0, 7]);
+    /// # Ok::<(), Box<dyn std::error::Error>>(())
+    /// ```
+    pub fn lookup_many(&self, addresses: &[u32]) -> Vec<u16> {
+        let mut ports = vec![0; addresses.len()];
+        self.look_many(addresses, &mut ports).done();
+        ports
+    }
+
+    /// [`SegmentTables::lookup_many`] into memory that the caller has, and can use again: the first elements of `ports`,
+    /// as many as there are addresses. The rest stays as it was.
+    ///
+    /// ```
+    /// use maftehon::{Refusal, RouteList, SegmentTables};
+    ///
+    /// let tables = SegmentTables::build(&RouteList::from_routes(&["10.0.0.0/8 7".parse()?])?);
+    /// let mut ports = [1; 3];
+    /// tables.lookup_many_into(&[0x0A01_0203, 0x0B00_0000], &mut ports)?;
+    /// assert_eq!(ports, [7, 0, 1]);
+    /// assert_eq!(tables.lookup_many_into(&[0; 4], &mut ports), Err(Refusal::NoRoom));
+    /// # Ok::<(), Box<dyn std::error::Error>>(())
+    /// ```
+    ///
+    /// # Errors
+    ///
+    /// - 9, [`Refusal::NoRoom`]: there are more addresses than `ports` has elements.
+    pub fn lookup_many_into(&self, addresses: &[u32], ports: &mut [u16]) -> Result<(), Refusal> {
+        self.look_many(addresses, ports).of_whole()?;
+        Ok(())
+    }
+
+    /// Built tables have no lookup that answers 11, so none of the elements is 65,535.
+    fn look_many(&self, addresses: &[u32], out: &mut [u16]) -> Reply<2> {
+        calls::segments_lookup_many(&self.first, &self.packed, &self.plain, &self.last, addresses, out)
     }
 
     /// The entries of the segment of these first sixteen bits, where they stand: all 256 of a plain one, all 64 of a

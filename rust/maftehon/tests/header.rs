@@ -88,7 +88,7 @@ fn in_capitals(variant: &str) -> String {
 fn the_declarations_are_those_of_the_header() {
     let header = declared(HEADER, "uint32_t mft_", in_rust);
     let rust = declared(SYS, "pub fn mft_", str::to_string);
-    assert_eq!(header.len(), 23);
+    assert_eq!(header.len(), 25);
     assert_eq!(rust, header);
     assert_eq!(SYS.matches("-> u32;").count(), rust.len());
 }

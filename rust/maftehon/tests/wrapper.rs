@@ -43,6 +43,51 @@ fn every_structure_gives_the_port_of_the_scan() {
     }
 }
 
+/// Both ends of every run of the floor example, from the last to the first, and the port of each.
+fn ends_of_the_floor() -> (Vec<u32>, Vec<u16>) {
+    let runs = floor().runs();
+    let ends = runs.iter().rev().flat_map(|run| [run.last, run.first].map(|end| (end, run.port)));
+    ends.map(|(end, port)| (u32::from(end), port.unwrap_or(0))).unzip()
+}
+
+#[test]
+fn many_addresses_in_one_call_have_the_ports_of_their_single_lookups() {
+    let (addresses, ports) = ends_of_the_floor();
+    for stride in [Stride::One, Stride::Two, Stride::Four] {
+        assert_eq!(Image::build(&floor(), stride).lookup_many(&addresses), ports);
+    }
+    assert_eq!(SegmentTables::build(&floor()).lookup_many(&addresses), ports);
+}
+
+#[test]
+fn no_address_in_one_call_has_no_port() {
+    assert!(Image::build(&floor(), Stride::Four).lookup_many(&[]).is_empty());
+    assert!(SegmentTables::build(&floor()).lookup_many(&[]).is_empty());
+}
+
+#[test]
+fn ports_are_written_where_the_caller_says_and_the_rest_stays() {
+    let (image, tables) = (Image::build(&floor(), Stride::Four), SegmentTables::build(&floor()));
+    let addresses = [0x0A01_0203, 0x0A01_0303, 0x0A00_0000, 0];
+    let mut ports = [5; 6];
+    assert_eq!(image.lookup_many_into(&addresses, &mut ports), Ok(()));
+    assert_eq!(ports, [7, 9, 7, 0, 5, 5]);
+    // Again in the same memory, with just enough of it.
+    assert_eq!(tables.lookup_many_into(&addresses[1..], &mut ports[..3]), Ok(()));
+    assert_eq!(ports, [9, 7, 0, 0, 5, 5]);
+}
+
+#[test]
+fn too_few_ports_for_the_addresses_are_refused_and_stay() {
+    let (image, tables) = (Image::build(&floor(), Stride::Four), SegmentTables::build(&floor()));
+    for room in 0..3 {
+        let mut ports = vec![5; room];
+        assert_eq!(image.lookup_many_into(&[0x0A01_0203; 3], &mut ports), Err(Refusal::NoRoom));
+        assert_eq!(tables.lookup_many_into(&[0x0A01_0203; 3], &mut ports), Err(Refusal::NoRoom));
+        assert_eq!(ports, vec![5; room]);
+    }
+}
+
 #[test]
 fn a_saved_table_and_a_written_file_come_back() {
     let list = floor();

@@ -52,7 +52,7 @@ pub fn image_lookup(stride: u32, nodes: &[u32], ports: &[u16], address: u32) -> 
     Answer::of(port.map(|port| [port, nodes_read]), [NO_PORT, nodes_read])
 }
 
-fn check_stride(stride: u32) -> Result<(), Refusal> {
+pub(crate) fn check_stride(stride: u32) -> Result<(), Refusal> {
     if ![1, 2, 4].contains(&stride) {
         return refuse(WRONG_STRIDE, 0);
     }

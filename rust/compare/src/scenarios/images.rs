@@ -1,6 +1,6 @@
-//! Images: built with every room and looked up; damaged; lent short.
+//! Images: built with every room and looked up, address by address and many in one call; damaged; lent short.
 
-use super::{addresses, any_set, some_damage};
+use super::{addresses, any_set, in_one_call, outs, some_damage};
 use crate::checker::{Checker, Compared};
 use workload::{damage_image, list_of, Held, Random};
 
@@ -23,6 +23,20 @@ fn image_of(checker: &mut Checker, stride: u32, held: &Held) -> Compared<Image> 
     Ok(Image { stride, nodes, ports })
 }
 
+/// The addresses one by one, and in one call.
+fn look_up(
+    checker: &mut Checker,
+    random: &mut Random,
+    stride: u32,
+    (nodes, ports): (&[u32], &[u16]),
+    addresses: &[u32],
+) -> Compared<()> {
+    checker.image_lookup(stride, nodes, ports, addresses)?;
+    let (addresses, mut out) = in_one_call(random, addresses);
+    checker.image_lookup_many(stride, nodes, ports, addresses, &mut out)?;
+    Ok(())
+}
+
 /// At each stride: built with tight rooms, looked up, looked up where fewer nodes or ports are lent.
 pub fn valid_images(checker: &mut Checker, random: &mut Random, most: usize) -> Compared<()> {
     let held = any_set(random, most);
@@ -34,15 +48,32 @@ pub fn valid_images(checker: &mut Checker, random: &mut Random, most: usize) -> 
             checker.image_build(stride, &list, room)?;
         }
         let addresses = addresses(random, &held, 60);
-        checker.image_lookup(stride, &nodes, &ports, &addresses)?;
+        look_up(checker, random, stride, (&nodes, &ports), &addresses)?;
+        few_in_one_call(checker, random, stride, (&nodes, &ports), &addresses)?;
         for other in [0, 1, 2, 3, 4, 5, 8, 32, u32::MAX] {
-            checker.image_lookup(other, &nodes, &ports, &addresses[..4])?;
+            look_up(checker, random, other, (&nodes, &ports), &addresses[..4])?;
         }
         let (cut_words, cut_ports) = (random.index(words), random.index(count));
-        checker.image_lookup(stride, &nodes[..cut_words], &ports, &addresses)?;
-        checker.image_lookup(stride, &nodes, &ports[..cut_ports], &addresses)?;
+        look_up(checker, random, stride, (&nodes[..cut_words], &ports), &addresses)?;
+        look_up(checker, random, stride, (&nodes, &ports[..cut_ports]), &addresses)?;
     }
     wrong_strides(checker, random, &list)
+}
+
+/// None of the addresses, one and two, with every room.
+fn few_in_one_call(
+    checker: &mut Checker,
+    random: &mut Random,
+    stride: u32,
+    (nodes, ports): (&[u32], &[u16]),
+    addresses: &[u32],
+) -> Compared<()> {
+    for count in 0..3 {
+        for mut out in outs(random, count) {
+            checker.image_lookup_many(stride, nodes, ports, &addresses[..count], &mut out)?;
+        }
+    }
+    Ok(())
 }
 
 fn wrong_strides(checker: &mut Checker, random: &mut Random, list: &[u32]) -> Compared<()> {
@@ -61,7 +92,8 @@ pub fn damaged_images(checker: &mut Checker, random: &mut Random, most: usize) -
     for _ in 0..8 {
         let (mut nodes, mut ports) = (image.nodes.clone(), image.ports.clone());
         some_damage(random, |random| damage_image(stride, &mut nodes, &mut ports, random));
-        checker.image_lookup(image.stride, &nodes, &ports, &addresses(random, &held, 40))?;
+        let addresses = addresses(random, &held, 40);
+        look_up(checker, random, image.stride, (&nodes, &ports), &addresses)?;
     }
     Ok(())
 }

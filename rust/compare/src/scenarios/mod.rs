@@ -81,6 +81,21 @@ fn rooms(exact: usize) -> [usize; 4] {
     [exact, exact.saturating_sub(1), exact + 1, 0]
 }
 
+/// What is lent for the elements of so many addresses: just enough, one less, one more, none, and far more. Any number
+/// stands there, also 65,535, which is then no element.
+fn outs(random: &mut Random, addresses: usize) -> [Vec<u16>; 5] {
+    let [exact, short, long, none] = rooms(addresses);
+    [exact, short, long, none, exact + 1000].map(|room| vec![random.pick(&[0, 1, 4094, 65_534, 65_535]); room])
+}
+
+/// All of the addresses as often as not, or none, one or any number of them, and one of what is lent for their elements.
+fn in_one_call<'a>(random: &mut Random, addresses: &'a [u32]) -> (&'a [u32], Vec<u16>) {
+    let (all, any) = (addresses.len(), random.index(addresses.len() + 1));
+    let count = random.pick(&[all, all, all, 0, 1, any]);
+    let outs = outs(random, count);
+    (&addresses[..count], outs[random.pick(&[0, 0, 0, 0, 1, 2, 3, 4])].clone())
+}
+
 /// Damages once, twice or three times.
 fn some_damage(random: &mut Random, mut damage: impl FnMut(&mut Random)) {
     (0..=random.below(3)).for_each(|_| damage(random));

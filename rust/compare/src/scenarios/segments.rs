@@ -1,6 +1,7 @@
-//! Segment tables: built with every room and looked up at every end of a route; damaged; noise.
+//! Segment tables: built with every room and looked up at every end of a route, address by address and many in one
+//! call; damaged; noise.
 
-use super::{addresses, any_set, rooms, some_damage};
+use super::{addresses, any_set, in_one_call, outs, rooms, some_damage};
 use crate::checker::{Checker, Compared};
 use workload::segments::{crowded_segment, cut_to, noise_stores, room_for, Stores};
 use workload::{damage_list, damage_segments, first_bits_of, list_of, Held, Random};
@@ -55,6 +56,14 @@ fn entries(random: &mut Random, stores: &Stores) -> Vec<u32> {
     entries
 }
 
+/// The addresses one by one, and in one call.
+fn look_up(checker: &mut Checker, random: &mut Random, stores: &Stores, addresses: &[u32]) -> Compared<()> {
+    checker.segments_lookup(stores, addresses)?;
+    let (addresses, mut out) = in_one_call(random, addresses);
+    checker.segments_lookup_many(stores, addresses, &mut out)?;
+    Ok(())
+}
+
 /// Built with just enough room, and one entry less, one more and none of each store; looked up; lent short.
 pub fn valid_segments(checker: &mut Checker, random: &mut Random, most: usize) -> Compared<()> {
     let held = any_segments(random, most);
@@ -68,15 +77,28 @@ pub fn valid_segments(checker: &mut Checker, random: &mut Random, most: usize) -
             checker.segments_build(&list, room)?;
         }
     }
-    checker.segments_lookup(&stores, &interesting(random, &held))?;
+    let ends = interesting(random, &held);
+    look_up(checker, random, &stores, &ends)?;
+    few_in_one_call(checker, random, &stores, &ends)?;
     checker.segments_entries(&stores, &entries(random, &stores))?;
     for store in 0..exact.len() {
         let mut short = stores.clone();
         short[store].truncate(random.index(exact[store] + 1));
-        checker.segments_lookup(&short, &addresses(random, &held, 20))?;
+        let addresses = addresses(random, &held, 20);
+        look_up(checker, random, &short, &addresses)?;
         checker.segments_entries(&short, &entries(random, &short))?;
     }
     damaged_list(checker, random, list)
+}
+
+/// None of the addresses, one and two, with every room.
+fn few_in_one_call(checker: &mut Checker, random: &mut Random, stores: &Stores, addresses: &[u32]) -> Compared<()> {
+    for count in 0..3 {
+        for mut out in outs(random, count) {
+            checker.segments_lookup_many(stores, &addresses[..count], &mut out)?;
+        }
+    }
+    Ok(())
 }
 
 /// The list checks come before 9, also with room for all that the list would need.
@@ -93,7 +115,8 @@ pub fn damaged_segments(checker: &mut Checker, random: &mut Random, most: usize)
     for _ in 0..8 {
         let mut damaged = stores.clone();
         some_damage(random, |random| damage_segments(&mut damaged, random));
-        checker.segments_lookup(&damaged, &interesting(random, &held))?;
+        let addresses = interesting(random, &held);
+        look_up(checker, random, &damaged, &addresses)?;
         checker.segments_entries(&damaged, &entries(random, &damaged))?;
     }
     Ok(())
@@ -103,7 +126,7 @@ pub fn damaged_segments(checker: &mut Checker, random: &mut Random, most: usize)
 pub fn noise_segments(checker: &mut Checker, random: &mut Random, most: usize) -> Compared<()> {
     let stores = noise_stores(random);
     let addresses: Vec<u32> = (0..100 + most).map(|_| random.word()).collect();
-    checker.segments_lookup(&stores, &addresses)?;
+    look_up(checker, random, &stores, &addresses)?;
     checker.segments_entries(&stores, &entries(random, &stores))?;
     Ok(())
 }

@@ -115,6 +115,38 @@ fn calls_on_segment_tables_write_their_answer_alone() {
 }
 
 #[test]
+fn calls_that_look_many_addresses_up_write_their_answer_alone() {
+    let (nodes, mut ports) = ([0x7FFF, 1, 0xFFFF, 1], [0; 31]);
+    // Fifteen leaves of the root, and then slot 10 of the other node.
+    ports[15 + 10] = 7;
+    let mut first = vec![0; 65_536];
+    first[0x0A00..0x0B00].fill(7);
+    let addresses = [10 << 24, 0];
+    let (mut out, no_block) = ([0; 2], [0; 1]);
+    let (nodes, ports, first, no_block) = (nodes.as_ptr(), ports.as_ptr(), first.as_ptr(), no_block.as_ptr());
+    let (addresses, out) = (addresses.as_ptr(), out.as_mut_ptr());
+    // SAFETY: every pointer is valid for the size that goes with it, and `answer` overlaps none of them.
+    unsafe {
+        let in_image = |stride, words, count, room, answer| {
+            mft_image_lookup_many(stride, nodes, words, ports, 31, addresses, count, out, room, answer)
+        };
+        assert_answers(0, [0, 0], |answer| in_image(4, 4, 2, 2, answer));
+        assert_answers(0, [0, 1], |answer| in_image(4, 3, 2, 2, answer));
+        assert_answers(0, [0, 0], |answer| in_image(4, 0, 0, 0, answer));
+        assert_answers(9, [0, 0], |answer| in_image(4, 3, 2, 1, answer));
+        assert_answers(12, [0, 0], |answer| in_image(3, 3, 2, 1, answer));
+        let in_segments = |size, count, room, answer| {
+            let [packed, plain, last] = [no_block; 3];
+            mft_segments_lookup_many(first, size, packed, 0, plain, 0, last, 0, addresses, count, out, room, answer)
+        };
+        assert_answers(0, [0, 0], |answer| in_segments(65_536, 2, 2, answer));
+        assert_answers(0, [0, 1], |answer| in_segments(65_535, 2, 2, answer));
+        assert_answers(0, [0, 0], |answer| in_segments(0, 0, 0, answer));
+        assert_answers(9, [0, 0], |answer| in_segments(65_535, 2, 1, answer));
+    }
+}
+
+#[test]
 fn the_call_that_writes_a_message_writes_its_answer_alone() {
     let list = LIST.as_ptr();
     let mut bytes = [0; 30];

@@ -8,6 +8,7 @@ mod files;
 mod histories;
 mod images;
 mod lists;
+mod many_lookups;
 mod messages;
 mod refusals;
 mod segments;

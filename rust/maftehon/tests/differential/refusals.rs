@@ -47,13 +47,15 @@ fn lists_and_updates_are_refused_5_and_files_and_messages_never() {
 }
 
 #[test]
-fn segment_tables_messages_and_counts_are_refused_as_the_rules_say_and_with_no_other_number() {
+fn segment_tables_many_lookups_messages_and_counts_are_refused_as_the_rules_say_and_with_no_other_number() {
     let tally = after_all_scenarios().tally;
     // 8 takes more routes than these scenarios have.
     for (call, numbers) in [
         ("segments_build", &[0, 3, 4, 5, 6, 7, 9][..]),
         ("segments_lookup", &[0, 11]),
         ("segments_entries", &[0]),
+        ("image_lookup_many", &[0, 9, 12]),
+        ("segments_lookup_many", &[0, 9]),
         ("message_write", &[0, 3, 4, 5, 6, 7, 9]),
         ("counts_make", &[0, 9, 11]),
         ("counted_announce", &[0, 4, 5, 6, 9, 11]),

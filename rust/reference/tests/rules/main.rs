@@ -6,6 +6,7 @@ mod damaged;
 mod faults;
 mod leaf_bases;
 mod list_and_file;
+mod many_lookups;
 mod messages;
 mod prefixes;
 mod random_lists;

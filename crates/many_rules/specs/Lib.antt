@@ -1,0 +1,3 @@
+-- Many lookups in one call.
+pub mod Many
+pub mod Theorems

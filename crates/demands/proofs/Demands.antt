@@ -67,7 +67,7 @@ use Rattle.demands.specs.SegmentChecks.{segmentReads, entriesStand}
 use Rattle.demands.specs.Boundary.{Boundary, place, result, readCount}
 use Rattle.demands.specs.Exports.{exports}
 use Rattle.demands.specs.History.{emptyTable, atEnd, heldBy}
-use Rattle.demands.specs.Demands as demands
+use Rattle.demands.specs.Refused as refused
 use Rattle.demands.specs.Demands.{Demand1, Demand2, Demand3, OneListing, Demands}
 use Rattle.demands.proofs.Shown.{On, Refuses, RefusesOnly, looking}
 use Rattle.demands.proofs.OfLists.{read-refuses, write-refuses, check-refuses, scan-refuses, list-runs-refuses}
@@ -84,37 +84,37 @@ use Rattle.demands.proofs.Histories.{held-is, counted-is}
 -- What is refused in the library's answer is refused in the words that C gets.
 module _ (checks : Verdict) where
   laid-whole : (count : ℕ) (lent : List ℕ) (o : Outcome Reply) (y : Outcome Answer) → o ≡ replied y → Refuses checks count lent y
-      → demands.RefusesWhole checks (count ∷ []) lent o
+      → refused.RefusesWhole checks (count ∷ []) lent o
   laid-whole count lent o y e r =
-      subst (demands.RefusesWhole checks (count ∷ []) lent) (sym e)
+      subst (refused.RefusesWhole checks (count ∷ []) lent) (sym e)
       (record { exact = r .exact; kept = λ wrong. (ap (λ (c : ℕ). y .answer .place ∷ c ∷ []) (r .kept wrong .0), r .kept wrong .1) })
 
   laid-alone : (lent : List ℕ) (o : Outcome Reply) (y : Outcome Answer) → o ≡ repliedPlace y → Refuses checks 0 lent y
-      → demands.RefusesWhole checks [] lent o
+      → refused.RefusesWhole checks [] lent o
   laid-alone lent o y e r =
-      subst (demands.RefusesWhole checks [] lent) (sym e) (record { exact = r .exact; kept = λ wrong. (refl, r .kept wrong .1) })
+      subst (refused.RefusesWhole checks [] lent) (sym e) (record { exact = r .exact; kept = λ wrong. (refl, r .kept wrong .1) })
 
   laid-book : (n : ℕ) (rows counts : List ℕ) (x : Booked) (y : Counted) → x ≡ repliedBook y → On (booking n rows counts) checks y
-      → demands.RefusesBook checks n rows counts x
+      → refused.RefusesBook checks n rows counts x
   laid-book n rows counts x y e r =
-      subst (demands.RefusesBook checks n rows counts) (sym e)
+      subst (refused.RefusesBook checks n rows counts) (sym e)
       (record {
         exact = r .exact;
         kept = λ wrong. let k = r .kept wrong in (ap (λ (c : ℕ). y .answer .place ∷ c ∷ []) (k .0), k .1, k .2);
       })
 
-  laid-place : (x : Reply) (y : Answer) → x ≡ placed y → RefusesOnly checks y → demands.Refuses checks [] x
-  laid-place x y e r = subst (demands.Refuses checks []) (sym e) (record { exact = r .exact; kept = λ wrong. refl })
+  laid-place : (x : Reply) (y : Answer) → x ≡ placed y → RefusesOnly checks y → refused.Refuses checks [] x
+  laid-place x y e r = subst (refused.Refuses checks []) (sym e) (record { exact = r .exact; kept = λ wrong. refl })
 
-  laid-count : (x : Reply) (y : Answer) → x ≡ counted y → RefusesOnly checks y → demands.Refuses checks (0 ∷ []) x
+  laid-count : (x : Reply) (y : Answer) → x ≡ counted y → RefusesOnly checks y → refused.Refuses checks (0 ∷ []) x
   laid-count x y e r =
-      subst (demands.Refuses checks (0 ∷ [])) (sym e)
+      subst (refused.Refuses checks (0 ∷ [])) (sym e)
       (record { exact = r .exact; kept = λ wrong. ap (λ (c : ℕ). y .place ∷ c ∷ []) (r .kept wrong) })
 
   laid-found : (x : Reply) (y : Found) → x ≡ looked y → On looking checks y
-      → demands.Refuses checks (0 ∷ readCount x ∷ []) x
+      → refused.Refuses checks (0 ∷ readCount x ∷ []) x
   laid-found x y e r =
-      subst (λ (z : Reply). demands.Refuses checks (0 ∷ readCount z ∷ []) z) (sym e)
+      subst (λ (z : Reply). refused.Refuses checks (0 ∷ readCount z ∷ []) z) (sym e)
       (record { exact = r .exact; kept = λ wrong. ap (λ (p : ℕ). 0 ∷ p ∷ y .reads ∷ []) (r .kept wrong) })
 
 -- the same of the build of an image, which leaves two memories
@@ -191,7 +191,7 @@ demand-1 B f = record {
   segments-elements = λ s addresses out o m z.
       elements-are (lookupStores s) (B .segments-lookup s) (f .segments-lookup s) addresses out o (f .segments-lookup-many s addresses out o m) z;
   segments-entries = λ packed plain entry x m.
-      subst (demands.Refuses done (0 ∷ 0 ∷ [])) (sym (f .segments-entries packed plain entry x m))
+      subst (refused.Refuses done (0 ∷ 0 ∷ [])) (sym (f .segments-entries packed plain entry x m))
       (record { exact = (refl, refl); kept = λ wrong. absurd (wrong refl) });
   segments-stand = λ packed plain entry x m.
       subst (λ (y : Reply). entriesStand packed plain entry (result y) (readCount y)) (sym (f .segments-entries packed plain entry x m))

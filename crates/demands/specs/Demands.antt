@@ -35,7 +35,8 @@ use Rattle.segment_rules.specs.Build.{Stores}
 use Rattle.message_calls.specs.History.{Event, EventFits}
 use Rattle.count_rules.specs.Tally.{ports, addresses, total}
 use Rattle.maftehon.specs.Reply.{Imaged, Segmented, Booked}
-use Rattle.demands.specs.Lamp.{Verdict, done, Lamp}
+use Rattle.demands.specs.Lamp.{done, Lamp}
+use Rattle.demands.specs.Refused.{Refuses, RefusesWhole, RefusesBook}
 use Rattle.demands.specs.Checks.{listChecks, readChecks, writeChecks, orderChecks, buildChecks, saveChecks, lookupChecks, imageChecks, imageLookupChecks, listRunsChecks, tableRunsChecks}
 use Rattle.demands.specs.SegmentChecks.{segmentChecks, SixteenBits, segmentLookupChecks, segmentReads, entriesStand}
 use Rattle.demands.specs.ManyChecks.{manyChecks, imageManyChecks, EachElement}
@@ -43,20 +44,6 @@ use Rattle.demands.specs.MessageChecks.{withdrawalChecks}
 use Rattle.demands.specs.CountChecks.{makeChecks, updateChecks}
 use Rattle.demands.specs.Boundary.{Boundary, place, result, readCount}
 use Rattle.demands.specs.History.{Step, Happened, LentOn, emptyTable, atEnd, countsAtEnd, portSince, heldBy}
-
--- a call that is refused as its checks say stores the place and these results
-abbrev pub Refuses : Verdict → List ℕ → Reply → Type 0
-Refuses checks results x = Lamp checks (x .number) (place x) (x .answer ≡ place x ∷ results)
-
--- and leaves the lent memory as it was
-abbrev pub RefusesWhole : Verdict → List ℕ → List ℕ → Outcome Reply → Type 0
-RefusesWhole checks results lent o =
-    Lamp checks (o .answer .number) (place (o .answer)) ((o .answer .answer ≡ place (o .answer) ∷ results) × (o .lent ≡ lent))
-
--- and an update the rows and the counts, with n as it was
-abbrev pub RefusesBook : Verdict → ℕ → List ℕ → List ℕ → Booked → Type 0
-RefusesBook checks n rows counts x =
-    Lamp checks (x .reply .number) (place (x .reply)) ((x .reply .answer ≡ place (x .reply) ∷ n ∷ []) × (x .rows ≡ rows) × (x .counts ≡ counts))
 
 -- DEMAND 1. "Every call ends, on whatever route file, list, table or image it is lent, and checks all of it that it uses. A refusal
 -- carries a number and a place from the published list, is given exactly in the listed case, and writes nothing." For every call of

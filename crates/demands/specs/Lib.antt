@@ -6,6 +6,7 @@ pub mod MessageChecks
 pub mod CountChecks
 pub mod Boundary
 pub mod ManyChecks
+pub mod Refused
 pub mod Exports
 pub mod History
 pub mod Demands

@@ -1,6 +1,6 @@
 # Maftehon: `make test` proves and tests everything, `make help` lists the rest.
 
-.PHONY: help test prove lib fuzz exhaustive bench runs layout
+.PHONY: help test prove lib fuzz exhaustive bench bulk runs layout
 
 help:
 	@echo "make test        prove every crate, try every must-fail edit, run every program and test; ends in 'N passed, 0 failed'"
@@ -9,8 +9,10 @@ help:
 	@echo "make fuzz        compare the library with the reference on fresh seeds for SECONDS=60"
 	@echo "make exhaustive  compare both tries and the segment tables with the run listing at all 2^32 addresses (35 minutes)"
 	@echo "make bench       measure the library against plain Rust and C, print a table, draw docs/speed.svg"
+	@echo "make bulk        race stride 4 with a plain trie over 4,000,000 addresses, print a table, draw docs/bulk.svg"
 	@echo "make runs        print the runs of examples/floor.routes, or of FILE=..."
 	@echo "make layout      lay out every .rt and .antt file"
+	@echo "CPU=x86-64-v2    beside lib, fuzz, exhaustive, bench or bulk: with the library compiled for that processor"
 
 # The whole gate. scripts/gate prints the prover's own last line as its last line.
 test:
@@ -19,8 +21,11 @@ test:
 prove:
 	rt check
 
+# The processor that the archive is compiled for, as the compiler names it (native: this machine's). Without one it is the plain archive,
+# which is shipped. Whatever stands on the archive takes it too: make bench CPU=x86-64-v2.
+CPU =
 lib:
-	@scripts/lib target/lib
+	@scripts/lib target/lib '$(CPU)'
 
 # The tools of rust/tools, on the archive that `lib` leaves.
 TOOL = cd rust && cargo run --release --offline --quiet --package tools --bin
@@ -34,6 +39,9 @@ exhaustive: lib
 
 bench: lib
 	@$(TOOL) bench
+
+bulk: lib
+	@$(TOOL) bulk
 
 FILE ?= examples/floor.routes
 runs:

@@ -1,8 +1,11 @@
-//! Links the proved library: `libmaftehon.a` from the folder `MAFTEHON_LIB`, or from where `make lib` leaves it.
+//! Links the proved library: `libmaftehon.a` from the folder `MAFTEHON_LIB`, or from where `make lib` leaves it. What it
+//! was compiled for goes to the build of a package that depends on this one, as `DEP_MAFTEHON_ARCHIVE`.
 
 use std::path::{Path, PathBuf};
 
 const ARCHIVE: &str = "libmaftehon.a";
+/// The line that `make lib` leaves beside the archive.
+const ABOUT: &str = "maftehon.txt";
 
 fn main() {
     println!("cargo:rerun-if-env-changed=MAFTEHON_LIB");
@@ -16,6 +19,17 @@ fn main() {
     };
     println!("cargo:rustc-link-search=native={}", found.with_file_name("").display());
     println!("cargo:rustc-link-lib=static=maftehon");
+    println!("cargo:archive={}", about(&found.with_file_name(ABOUT)));
+}
+
+/// The processor that the archive was compiled for, and its SHA-256.
+fn about(file: &Path) -> String {
+    let Ok(text) = std::fs::read_to_string(file) else {
+        // The archive is from elsewhere. To watch a file that is not there would be to build anew each time.
+        return "unknown processor".into();
+    };
+    println!("cargo:rerun-if-changed={}", file.display());
+    text.lines().take(1).collect()
 }
 
 fn folder_of_make_lib() -> PathBuf {

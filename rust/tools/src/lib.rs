@@ -1,11 +1,15 @@
-//! What the tools `fuzz`, `exhaustive` and `bench` are made of.
+//! What the tools `fuzz`, `exhaustive`, `bench` and `bulk` are made of.
 
 pub mod bench;
+pub mod bulk;
 pub mod exhaustive;
 pub mod plain_check;
 pub mod plain_segments;
 pub mod plain_trie;
 pub mod plain_walk;
+mod setting;
+
+pub use setting::setting;
 
 use workload::{Held, Kind, Random};
 

@@ -1,7 +1,8 @@
-//! What the tests and the tools feed to a route library: seeded random numbers, sets of routes, messages about them,
-//! damage to the lists, files, rows, counts, images, segment tables and messages that are made of them, and spare bits
-//! in files. Nothing here knows a library.
+//! What the tests and the tools feed to a route library: seeded random numbers, sets of routes, addresses to look up in
+//! them, messages about them, damage to the lists, files, rows, counts, images, segment tables and messages that are
+//! made of them, and spare bits in files. Nothing here knows a library.
 
+mod addresses;
 mod damage;
 pub mod messages;
 mod random;
@@ -10,6 +11,7 @@ pub mod segments;
 mod sets;
 mod spare;
 
+pub use addresses::Addresses;
 pub use damage::{damage_counts, damage_file, damage_image, damage_list, damage_message, damage_rows, damage_segments};
 pub use messages::Message;
 pub use random::Random;

@@ -1,4 +1,5 @@
-//! Lookups: table and images against the plain trie, and the image at stride 4 against a plain walk of it in C.
+//! Lookups: table and images against the plain trie, and the image at stride 4 against a plain walk of it in C and, many
+//! lookups in one call, against as many calls.
 
 use super::race::{Race, Runner};
 use super::subject::{Image, Subject};
@@ -21,6 +22,7 @@ pub fn races(subject: &Subject) -> Vec<Race<'_>> {
         walk("the same by the general call, against a C walk", &subject.images[2], subject, general_4),
         walk("image of no route, stride 4, against a C walk", &subject.empty_image, subject, calls::image_lookup_4),
         walk("the same of no route, by the general call", &subject.empty_image, subject, general_4),
+        many_in_image(subject),
     ]
 }
 
@@ -81,4 +83,29 @@ fn walk<'a>(
         .runner(Runner::Plain, addresses.len(), move |number| {
             plain_walk::lookup_4(nodes, ports, addresses[number]).answer[1]
         })
+}
+
+/// A race of one call for all the addresses with a call for each and with the plain trie.
+pub fn in_one_call<'a>(
+    what: &'static str,
+    subject: &'a Subject,
+    many: impl Fn(&[u32], &mut [u16]) -> Reply<2> + 'a,
+    single: impl Fn(u32) -> Reply<3> + 'a,
+) -> Race<'a> {
+    let addresses = &subject.addresses;
+    let mut out = vec![0; addresses.len()];
+    Race::new(what)
+        .whole_runner(Runner::Proved, addresses.len(), move || many(addresses, &mut out))
+        .runner(Runner::Single, addresses.len(), move |number| single(addresses[number]).answer[1])
+        .runner(Runner::Plain, addresses.len(), move |number| subject.trie.lookup(addresses[number]))
+}
+
+fn many_in_image(subject: &Subject) -> Race<'_> {
+    let [.., (nodes, ports)] = &subject.images;
+    in_one_call(
+        "many lookups in one call, stride 4",
+        subject,
+        |addresses, out| calls::image_lookup_many(4, nodes, ports, addresses, out),
+        |address| calls::image_lookup_4(nodes, ports, address),
+    )
 }

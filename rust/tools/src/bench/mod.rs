@@ -1,15 +1,16 @@
 //! Measurement: the proved library, plain Rust or C, and the reference on the same work, in turns, and medians of the
 //! rounds.
 
+pub(crate) mod bars;
 mod chart;
 mod counts;
 mod lists;
 mod lookups;
 mod messages;
-mod race;
-mod report;
+pub(crate) mod race;
+pub(crate) mod report;
 mod segments;
-mod subject;
+pub(crate) mod subject;
 mod svg;
 mod table;
 mod updates;
@@ -29,7 +30,7 @@ pub struct Measured {
 
 /// Runs every race on the set of this shape.
 pub fn measure(kind: Kind, rounds: usize) -> Measured {
-    let subject = Subject::new(kind);
+    let subject = Subject::of(crate::full_set(kind));
     let mut races = lookups::races(&subject);
     races.extend(lists::races(&subject));
     races.extend(updates::races(&subject));

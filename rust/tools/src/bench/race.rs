@@ -10,6 +10,8 @@ pub enum Runner {
     Plain,
     /// The proved library itself, by an image at stride 4: another structure for the same addresses.
     Image,
+    /// The proved library itself, by a call for each address, beside one call for all of them.
+    Single,
     /// The proved library itself, by a check of the good order of the same table, beside messages.
     Check,
     /// The same check beside the calls that make counts and keep them, which have a table of their own.
@@ -37,9 +39,8 @@ impl Lane<'_> {
     }
 
     /// Nanoseconds for one operation in the middle one of the turns.
-    fn median(&mut self) -> f64 {
-        self.times.sort();
-        self.times[self.times.len() / 2].as_nanos() as f64 / self.operations as f64
+    fn median(&self) -> f64 {
+        median(&self.times) / self.operations as f64
     }
 }
 
@@ -54,13 +55,20 @@ impl<'a> Race<'a> {
         Race { what, lanes: Vec::new() }
     }
 
-    /// A runner whose turn is that many operations, after as many that are not timed, so that what they read is
-    /// in the caches whoever had the turn before.
+    /// A runner whose turn is that many operations.
     pub fn runner<T>(self, runner: Runner, operations: usize, mut operation: impl FnMut(usize) -> T + 'a) -> Race<'a> {
-        let mut operate = move || {
+        self.whole_runner(runner, operations, move || {
             for number in 0..operations {
                 black_box(operation(number));
             }
+        })
+    }
+
+    /// A runner that does that many operations in one go, after as many that are not timed, so that what they read is in
+    /// the caches whoever had the turn before.
+    pub fn whole_runner<T>(self, runner: Runner, operations: usize, mut operate: impl FnMut() -> T + 'a) -> Race<'a> {
+        let mut operate = move || {
+            black_box(operate());
         };
         let turn = move || {
             operate();
@@ -80,6 +88,13 @@ pub fn timed(work: impl FnOnce()) -> Duration {
     let start = Instant::now();
     work();
     start.elapsed()
+}
+
+/// The middle one of some times, in nanoseconds.
+pub fn median(times: &[Duration]) -> f64 {
+    let mut sorted = times.to_vec();
+    sorted.sort();
+    sorted[sorted.len() / 2].as_nanos() as f64
 }
 
 /// What a race gave: nanoseconds for one operation, for each runner that took part.
@@ -104,9 +119,9 @@ pub fn run(mut races: Vec<Race>, rounds: usize) -> Vec<Outcome> {
     for _ in 0..rounds {
         races.iter_mut().flat_map(|race| &mut race.lanes).for_each(Lane::take_turn);
     }
-    let outcome = |race: &mut Race| Outcome {
+    let outcome = |race: &Race| Outcome {
         what: race.what,
-        medians: race.lanes.iter_mut().map(|lane| (lane.runner, lane.median())).collect(),
+        medians: race.lanes.iter().map(|lane| (lane.runner, lane.median())).collect(),
     };
-    races.iter_mut().map(outcome).collect()
+    races.iter().map(outcome).collect()
 }

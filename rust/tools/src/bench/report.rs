@@ -8,22 +8,27 @@ pub fn report(all: &[Measured]) -> String {
 }
 
 /// The runners by which the library is measured against itself, each with the head of its table.
-const OWN: [(Runner, [&str; 4]); 3] = [
+const OWN: [(Runner, [&str; 4]); 4] = [
     (Runner::Image, ["What", "segment tables", "image, stride 4", "segment tables ÷ image"]),
+    (Runner::Single, ["What", "one call for all", "a call for each", "one call ÷ a call for each"]),
     (Runner::Check, ["What", "message", "good-order check", "message ÷ check"]),
     (Runner::CheckOfCounted, ["What", "with counts", "good-order check", "with counts ÷ check"]),
 ];
 
-/// First what is measured against plain code and the reference, then segment tables against an image, and messages and
-/// counts against the check of a table.
+/// First what is measured against plain code and the reference, then segment tables against an image, many lookups in
+/// one call against as many calls, and messages and counts against the check of a table.
 fn tables(measured: &Measured) -> String {
     let of = |runner| measured.outcomes.iter().filter(move |outcome| outcome.of(runner).is_some());
-    let others = measured.outcomes.iter().filter(|outcome| OWN.iter().all(|(runner, _)| outcome.of(*runner).is_none()));
+    let against_others = measured.outcomes.iter().filter(|outcome| is_against_others(outcome));
     let head = ["What", "proved", "plain", "proved ÷ plain", "reference", "proved ÷ reference"];
     let row =
         |outcome: &Outcome| [cells(outcome, Runner::Plain), cells(outcome, Runner::Reference)[2..].into()].concat();
     let own = OWN.map(|(runner, head)| table(&head, of(runner).map(|outcome| cells(outcome, runner))));
-    format!("### {}\n\n{}\n{}", measured.set, table(&head, others.map(row)), own.join("\n"))
+    format!("### {}\n\n{}\n{}", measured.set, table(&head, against_others.map(row)), own.join("\n"))
+}
+
+fn is_against_others(outcome: &Outcome) -> bool {
+    outcome.of(Runner::Plain).or(outcome.of(Runner::Reference)).is_some()
 }
 
 /// What was measured, the time of the proved library, that of this runner, and the ratio; empty where it did not run.
@@ -33,12 +38,12 @@ fn cells(outcome: &Outcome, runner: Runner) -> Vec<String> {
     vec![outcome.what.into(), time_of(Runner::Proved), time_of(runner), ratio]
 }
 
-fn table(head: &[&str], rows: impl Iterator<Item = Vec<String>>) -> String {
+pub fn table(head: &[&str], rows: impl Iterator<Item = Vec<String>>) -> String {
     let rows: String = rows.map(|cells| format!("| {} |\n", cells.join(" | "))).collect();
     format!("| {} |\n|{}\n{rows}", head.join(" | "), "---|".repeat(head.len()))
 }
 
-fn time(nanoseconds: f64) -> String {
+pub fn time(nanoseconds: f64) -> String {
     let (count, unit) = match nanoseconds {
         n if n < 1e3 => (n, "ns"),
         n if n < 1e6 => (n / 1e3, "µs"),

@@ -1,6 +1,7 @@
-//! Segment tables: lookups against the plain trie, a plain lookup in C and the image at stride 4; and the build.
+//! Segment tables: lookups against the plain trie, a plain lookup in C and the image at stride 4, and many in one call
+//! against as many calls; and the build.
 
-use super::lookups::against_trie;
+use super::lookups::{against_trie, in_one_call};
 use super::race::{Race, Runner};
 use super::subject::Subject;
 use crate::plain_segments;
@@ -9,7 +10,7 @@ use maftehon::RouteList;
 use workload::segments::{room_for, Stores};
 
 pub fn races(subject: &Subject) -> Vec<Race<'_>> {
-    vec![lookup(subject), lookup_in_c(subject), lookup_in_image(subject), build(subject)]
+    vec![lookup(subject), lookup_in_c(subject), lookup_in_image(subject), lookup_many(subject), build(subject)]
 }
 
 fn lookup(subject: &Subject) -> Race<'_> {
@@ -42,6 +43,16 @@ fn lookup_in_image(subject: &Subject) -> Race<'_> {
     proved("lookup", subject).runner(Runner::Image, addresses.len(), move |number| {
         calls::image_lookup_4(nodes, ports, addresses[number]).answer[1]
     })
+}
+
+fn lookup_many(subject: &Subject) -> Race<'_> {
+    let [first, packed, plain, last] = &subject.segments;
+    in_one_call(
+        "many lookups in one call, segment tables",
+        subject,
+        |addresses, out| calls::segments_lookup_many(first, packed, plain, last, addresses, out),
+        |address| calls::segments_lookup(first, packed, plain, last, address),
+    )
 }
 
 fn build(subject: &Subject) -> Race<'_> {

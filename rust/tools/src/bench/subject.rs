@@ -3,7 +3,7 @@
 use crate::exhaustive::Structure;
 use crate::plain_trie::PlainTrie;
 use workload::segments::Stores;
-use workload::{list_of, Held, Kind, Random};
+use workload::{list_of, Held, Random};
 
 /// How many addresses a turn looks up.
 const ADDRESSES: usize = 1 << 14;
@@ -26,8 +26,7 @@ pub struct Subject {
 }
 
 impl Subject {
-    pub fn new(kind: Kind) -> Subject {
-        let held = crate::full_set(kind);
+    pub fn of(held: Held) -> Subject {
         let list = list_of(&held);
         let Built { images, rows, n, segments } = Built::of(&list);
         let Built { images: [.., empty_image], .. } = Built::of(&[]);

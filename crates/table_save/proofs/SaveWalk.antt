@@ -7,7 +7,7 @@ use Prim.Native.Nat.{ℕ, zero, suc, _+_, _-_, _*_, _<_, _≤_}
 use native.Mathlib.Omega.{arith}
 use native.Mathlib.Nat.{add-zero, zero-add}
 use lib.ListN.{length, drop, length-append}
-use lib.Seq.{sets, sets-eq, set-getD}
+use lib.Seq.{sets, sets-eq, set-getD, length-sets}
 use borrow.Author.Tests.{eq-eqb, ne-eqb, le-leb, lt-leb}
 use Rattle.promise.specs.Over.{over, outcome}
 use Rattle.refusals.specs.Refusals.{noRoom, notInOrder, refused, accepted}
@@ -26,7 +26,9 @@ use Rattle.table_rules.proofs.Save.{good-savable, saved-is}
 use Rattle.table_rules.proofs.Ascending.{length-insert}
 use Rattle.routes.proofs.Words.{length-words, words-append, store-sets}
 use Rattle.lists.proofs.Sets.{sets-append}
-use Rattle.table_save.specs.Writing.{placed, WroteRoutes}
+use Rattle.list_insert.specs.Insertion.{placed, inserted}
+use Rattle.list_insert.proofs.Loops.{inserted-within}
+use Rattle.table_save.specs.Writing.{WroteRoutes}
 use Rattle.table_save.proofs.Insertion.{placed-is}
 
 pub ready-row : (M : Mem) (room k r : ℕ) → Savable M room k r → r < room
@@ -114,11 +116,13 @@ wrote-free ws i =
 pub wrote-more : (M : Mem) (room k r at : ℕ) (x : Row) (middle end : ℕ) (lent mid low left : List ℕ) (q : Route)
     → (k ≡ 0 → ⊥) → x ≡ M r → Savable M room k r → (at + length (savedAt M k r)) * 3 ≤ length lent
     → WroteRoutes (savedBelow M (k - 1) (x .left)) at middle lent mid → WroteRoutes (savedBelow M (k - 1) (x .right)) (middle + 1) end mid low
-    → q ≡ routeOf x → left ≡ placed low at middle end q → WroteRoutes (savedAt M k r) at end lent left
+    → q ≡ routeOf x → left ≡ inserted low at middle end q → WroteRoutes (savedAt M k r) at end lent left
 wrote-more M room k r at x middle end lent mid low left q ne is ready room-for wl wr eq e = record {
   end = omega (arith, wl .end, wr .end, size-more M k r x ne is);
   words =
       e
+      ∙ inserted-within low at middle end q (omega (arith, wl .end)) (omega (arith, wr .end))
+      (omega (arith, size-more M k r x ne is, wl .end, wr .end, long))
       ∙ ap (λ (ws : List ℕ). placed ws at middle end q)
       (both .words ∙ ap (λ (rs : List Route). sets lent (at * 3) (wordsOf rs)) (append-assoc L (h ∷ []) R))
       ∙ ap₂ (λ (i j : ℕ). placed (sets lent (at * 3) (wordsOf (L ++ (h ∷ R)))) at i j q) (wl .end) (wr .end ∙ ap (λ (i : ℕ). i + 1 + length R) (wl .end))
@@ -127,6 +131,11 @@ wrote-more M room k r at x middle end lent mid low left q ne is ready room-for w
       (ap (λ (y : Route). insertRoute y (L ++ R)) eq ∙ sym (saved-more M k r x ne is));
 }
   where
+    long : length low ≡ length lent
+    long =
+        ap (λ (ws : List ℕ). length ws) (wr .words) ∙ length-sets mid ((middle + 1) * 3) (wordsOf (savedBelow M (k - 1) (x .right)))
+        ∙ ap (λ (ws : List ℕ). length ws) (wl .words) ∙ length-sets lent (at * 3) (wordsOf (savedBelow M (k - 1) (x .left)))
+
     L : List Route
     L = savedBelow M (k - 1) (x .left)
 

@@ -16,9 +16,9 @@ use Rattle.table_save.proofs.save_below.Reads as save-below
 use Rattle.table_save.proofs.save_below.Kinds as save-below-kinds
 use Rattle.table_save.proofs.+save_at+save_below.Lts-save_below as save-below-lts
 use Rattle.table_rows.proofs.whole_row.Reads as whole-row-reads
-use Rattle.table_save.proofs.store_whole.Reads as store-whole-reads
+use Rattle.routes.proofs.store_route.Reads as store-route-reads
 use Rattle.table_rows.proofs.route_of.Reads as route-of-reads
-use Rattle.table_save.proofs.place_route.Reads as place-route-reads
+use Rattle.list_insert.proofs.insert_route.Reads as insert-route-reads
 use Rattle.table_save.proofs.+save_at+save_below.{statement}
 use Rattle.table_save.proofs.+save_at+save_below.Tie.{close}
 
@@ -47,12 +47,12 @@ save-at-whole-row-requires : (t : ℕ) → save-at-lts.Need-whole-row-requires (
   whole-row-reads.Learnt,
   route-of-reads.Asked,
   route-of-reads.Learnt,
-  store-whole-reads.Asked,
-  store-whole-reads.Learnt,
+  store-route-reads.Asked,
+  store-route-reads.Learnt,
   save-below-below t,
   save-below.Post,
-  place-route-reads.Asked,
-  place-route-reads.Learnt,
+  insert-route-reads.Asked,
+  insert-route-reads.Learnt,
 ) (save-at-at t) save-at.Post
 save-at-whole-row-requires t c κs =
     let a = c .before .before in
@@ -63,42 +63,40 @@ save-at-route-of-requires : (t : ℕ) → save-at-lts.Need-route-of-requires (
   whole-row-reads.Learnt,
   route-of-reads.Asked,
   route-of-reads.Learnt,
-  store-whole-reads.Asked,
-  store-whole-reads.Learnt,
+  store-route-reads.Asked,
+  store-route-reads.Learnt,
   save-below-below t,
   save-below.Post,
-  place-route-reads.Asked,
-  place-route-reads.Learnt,
+  insert-route-reads.Asked,
+  insert-route-reads.Learnt,
 ) (save-at-at t) save-at.Post
 save-at-route-of-requires t c κs = search needs
 
-save-at-store-whole-requires : (t : ℕ) → save-at-lts.Need-store-whole-requires (
+save-at-store-route-requires : (t : ℕ) → save-at-lts.Need-store-route-requires (
   whole-row-reads.Asked,
   whole-row-reads.Learnt,
   route-of-reads.Asked,
   route-of-reads.Learnt,
-  store-whole-reads.Asked,
-  store-whole-reads.Learnt,
+  store-route-reads.Asked,
+  store-route-reads.Learnt,
   save-below-below t,
   save-below.Post,
-  place-route-reads.Asked,
-  place-route-reads.Learnt,
+  insert-route-reads.Asked,
+  insert-route-reads.Learnt,
 ) (save-at-at t) save-at.Post
-save-at-store-whole-requires t c κs =
-    let a = c .before .before .before .before .before .before in
-    omega (arith, size-last (rowAt (a .args .rows .now)) (a .args .left) (a .args .row) (c .before .before .if1 .taken), a .pre .1 .1)
+save-at-store-route-requires t c κs = search needs
 
 save-at-add-result : (t : ℕ) → save-at-lts.Need-add-result (
   whole-row-reads.Asked,
   whole-row-reads.Learnt,
   route-of-reads.Asked,
   route-of-reads.Learnt,
-  store-whole-reads.Asked,
-  store-whole-reads.Learnt,
+  store-route-reads.Asked,
+  store-route-reads.Learnt,
   save-below-below t,
   save-below.Post,
-  place-route-reads.Asked,
-  place-route-reads.Learnt,
+  insert-route-reads.Asked,
+  insert-route-reads.Learnt,
 ) (save-at-at t) save-at.Post
 save-at-add-result t c =
     let a = c .before .before .before .before .before .before .before .before .before in
@@ -109,26 +107,26 @@ save-at-same-length : (t : ℕ) → save-at-lts.Need-same-length (
   whole-row-reads.Learnt,
   route-of-reads.Asked,
   route-of-reads.Learnt,
-  store-whole-reads.Asked,
-  store-whole-reads.Learnt,
+  store-route-reads.Asked,
+  store-route-reads.Learnt,
   save-below-below t,
   save-below.Post,
-  place-route-reads.Asked,
-  place-route-reads.Learnt,
+  insert-route-reads.Asked,
+  insert-route-reads.Learnt,
 ) (save-at-at t) save-at.Post
-save-at-same-length t c = c .before .before .store-whole .kept .0
+save-at-same-length t c = c .before .before .store-route .kept .0
 
 save-at-returns : (t : ℕ) → save-at-lts.Need-returns (
   whole-row-reads.Asked,
   whole-row-reads.Learnt,
   route-of-reads.Asked,
   route-of-reads.Learnt,
-  store-whole-reads.Asked,
-  store-whole-reads.Learnt,
+  store-route-reads.Asked,
+  store-route-reads.Learnt,
   save-below-below t,
   save-below.Post,
-  place-route-reads.Asked,
-  place-route-reads.Learnt,
+  insert-route-reads.Asked,
+  insert-route-reads.Learnt,
 ) (save-at-at t) save-at.Post
 save-at-returns t c =
     let p = c .before .before in
@@ -136,19 +134,19 @@ save-at-returns t c =
     let a = i .before .before .before .before in
     let last = size-last (rowAt (a .args .rows .now)) (a .args .left) (a .args .row) (i .if1 .taken) in
     let room : a .args .at * 3 + 3 ≤ length (a .args .list .now) = omega (arith, last, a .pre .1 .1) in
-    wrote-last (rowAt (a .args .rows .now)) (a .args .left) (a .args .row) (a .args .at) _ _ _ _ (i .if1 .taken) (i .before .whole-row .ensures) (p .before .route-of .ensures) room (p .store-whole .ensures)
+    wrote-last (rowAt (a .args .rows .now)) (a .args .left) (a .args .row) (a .args .at) _ _ _ _ (i .if1 .taken) (i .before .whole-row .ensures) (p .before .route-of .ensures) room (p .store-route .ensures)
 
 save-at-sub-save-below : (t : ℕ) → save-at-lts.Need-sub-save-below (
   whole-row-reads.Asked,
   whole-row-reads.Learnt,
   route-of-reads.Asked,
   route-of-reads.Learnt,
-  store-whole-reads.Asked,
-  store-whole-reads.Learnt,
+  store-route-reads.Asked,
+  store-route-reads.Learnt,
   save-below-below t,
   save-below.Post,
-  place-route-reads.Asked,
-  place-route-reads.Learnt,
+  insert-route-reads.Asked,
+  insert-route-reads.Learnt,
 ) (save-at-at t) save-at.Post
 save-at-sub-save-below t c =
     let ne = c .if1 .left in
@@ -159,12 +157,12 @@ save-at-save-below-requires : (t : ℕ) → save-at-lts.Need-save-below-requires
   whole-row-reads.Learnt,
   route-of-reads.Asked,
   route-of-reads.Learnt,
-  store-whole-reads.Asked,
-  store-whole-reads.Learnt,
+  store-route-reads.Asked,
+  store-route-reads.Learnt,
   save-below-below t,
   save-below.Post,
-  place-route-reads.Asked,
-  place-route-reads.Learnt,
+  insert-route-reads.Asked,
+  insert-route-reads.Learnt,
 ) (save-at-at t) save-at.Post
 save-at-save-below-requires t c κs =
     let ne = c .before .if1 .left in
@@ -183,12 +181,12 @@ save-at-sub-save-below-2 : (t : ℕ) → save-at-lts.Need-sub-save-below-2 (
   whole-row-reads.Learnt,
   route-of-reads.Asked,
   route-of-reads.Learnt,
-  store-whole-reads.Asked,
-  store-whole-reads.Learnt,
+  store-route-reads.Asked,
+  store-route-reads.Learnt,
   save-below-below t,
   save-below.Post,
-  place-route-reads.Asked,
-  place-route-reads.Learnt,
+  insert-route-reads.Asked,
+  insert-route-reads.Learnt,
 ) (save-at-at t) save-at.Post
 save-at-sub-save-below-2 t c =
     let ne = c .before .before .before .before .if1 .left in
@@ -199,12 +197,12 @@ save-at-add-save-below : (t : ℕ) → save-at-lts.Need-add-save-below (
   whole-row-reads.Learnt,
   route-of-reads.Asked,
   route-of-reads.Learnt,
-  store-whole-reads.Asked,
-  store-whole-reads.Learnt,
+  store-route-reads.Asked,
+  store-route-reads.Learnt,
   save-below-below t,
   save-below.Post,
-  place-route-reads.Asked,
-  place-route-reads.Learnt,
+  insert-route-reads.Asked,
+  insert-route-reads.Learnt,
 ) (save-at-at t) save-at.Post
 save-at-add-save-below t c =
     let s = c .before .before .before in
@@ -222,12 +220,12 @@ save-at-save-below-requires-2 : (t : ℕ) → save-at-lts.Need-save-below-requir
   whole-row-reads.Learnt,
   route-of-reads.Asked,
   route-of-reads.Learnt,
-  store-whole-reads.Asked,
-  store-whole-reads.Learnt,
+  store-route-reads.Asked,
+  store-route-reads.Learnt,
   save-below-below t,
   save-below.Post,
-  place-route-reads.Asked,
-  place-route-reads.Learnt,
+  insert-route-reads.Asked,
+  insert-route-reads.Learnt,
 ) (save-at-at t) save-at.Post
 save-at-save-below-requires-2 t c κs =
     let s = c .before .before .before in
@@ -253,76 +251,58 @@ save-at-route-of-requires-2 : (t : ℕ) → save-at-lts.Need-route-of-requires-2
   whole-row-reads.Learnt,
   route-of-reads.Asked,
   route-of-reads.Learnt,
-  store-whole-reads.Asked,
-  store-whole-reads.Learnt,
+  store-route-reads.Asked,
+  store-route-reads.Learnt,
   save-below-below t,
   save-below.Post,
-  place-route-reads.Asked,
-  place-route-reads.Learnt,
+  insert-route-reads.Asked,
+  insert-route-reads.Learnt,
 ) (save-at-at t) save-at.Post
 save-at-route-of-requires-2 t c κs = search needs
 
-save-at-place-route-requires : (t : ℕ) → save-at-lts.Need-place-route-requires (
+save-at-insert-route-requires : (t : ℕ) → save-at-lts.Need-insert-route-requires (
   whole-row-reads.Asked,
   whole-row-reads.Learnt,
   route-of-reads.Asked,
   route-of-reads.Learnt,
-  store-whole-reads.Asked,
-  store-whole-reads.Learnt,
+  store-route-reads.Asked,
+  store-route-reads.Learnt,
   save-below-below t,
   save-below.Post,
-  place-route-reads.Asked,
-  place-route-reads.Learnt,
+  insert-route-reads.Asked,
+  insert-route-reads.Learnt,
 ) (save-at-at t) save-at.Post
-save-at-place-route-requires t c κs =
-    let u = c .before .before .before .before in
-    let s = u .before .before .before .before in
-    let ne = s .before .before .if1 .left in
-    let r = s .before .before .before in
-    let a = r .before .before .before in
-    let M = rowAt (a .args .rows .now) in (
-      omega (arith, s .save-below .ensures .end),
-      omega (arith, u .save-below2 .ensures .end),
-      omega (
-        arith,
-        size-more M (a .args .left) (a .args .row) _ ne (r .whole-row .ensures),
-        a .pre .1 .1,
-        u .save-below2 .ensures .end,
-        s .save-below .ensures .end,
-        u .save-below2 .kept .1 .1 .1 .0,
-        s .save-below .kept .1 .1 .1 .0,
-      ),
-    )
+save-at-insert-route-requires t c κs = search needs
 
 save-at-same-length-2 : (t : ℕ) → save-at-lts.Need-same-length-2 (
   whole-row-reads.Asked,
   whole-row-reads.Learnt,
   route-of-reads.Asked,
   route-of-reads.Learnt,
-  store-whole-reads.Asked,
-  store-whole-reads.Learnt,
+  store-route-reads.Asked,
+  store-route-reads.Learnt,
   save-below-below t,
   save-below.Post,
-  place-route-reads.Asked,
-  place-route-reads.Learnt,
+  insert-route-reads.Asked,
+  insert-route-reads.Learnt,
 ) (save-at-at t) save-at.Post
 save-at-same-length-2 t c =
     let p = c .before .before in
     let u = p .before .before .before .before .before in
     let s = u .before .before .before .before in
-    p .place-route .kept .0 ∙ u .save-below2 .kept .1 .1 .1 .0 ∙ s .save-below .kept .1 .1 .1 .0
+    p .insert-route .kept .0 ∙ u .save-below2 .kept .1 .1 .1 .0 ∙ s .save-below .kept .1 .1 .1 .0
 
 save-at-returns-2 : (t : ℕ) → save-at-lts.Need-returns-2 (
   whole-row-reads.Asked,
   whole-row-reads.Learnt,
   route-of-reads.Asked,
   route-of-reads.Learnt,
-  store-whole-reads.Asked,
-  store-whole-reads.Learnt,
+  store-route-reads.Asked,
+  store-route-reads.Learnt,
   save-below-below t,
   save-below.Post,
-  place-route-reads.Asked,
-  place-route-reads.Learnt,
+  insert-route-reads.Asked,
+  insert-route-reads.Learnt,
 ) (save-at-at t) save-at.Post
 save-at-returns-2 t c =
     let p = c .before .before in
@@ -332,7 +312,7 @@ save-at-returns-2 t c =
     let r = s .before .before .before in
     let a = r .before .before .before in
     let M = rowAt (a .args .rows .now) in
-    wrote-more M (rowCount (a .args .rows .now)) (a .args .left) (a .args .row) (a .args .at) _ _ _ _ _ _ _ _ ne (r .whole-row .ensures) (a .pre .1 .0) (a .pre .1 .1) (s .save-below .ensures) (u .save-below2 .ensures) (p .before .route-of2 .ensures) (p .place-route .ensures)
+    wrote-more M (rowCount (a .args .rows .now)) (a .args .left) (a .args .row) (a .args .at) _ _ _ _ _ _ _ _ ne (r .whole-row .ensures) (a .pre .1 .0) (a .pre .1 .1) (s .save-below .ensures) (u .save-below2 .ensures) (p .before .route-of2 .ensures) (p .insert-route .ensures)
 
 save-below-returns :
     (t : ℕ) →
@@ -381,18 +361,18 @@ pub +save-at+save-below-spec : {M : Type 1} → statement M
   whole-row-reads.Learnt,
   route-of-reads.Asked,
   route-of-reads.Learnt,
-  store-whole-reads.Asked,
-  store-whole-reads.Learnt,
+  store-route-reads.Asked,
+  store-route-reads.Learnt,
   save-below-below t,
   save-below.Post,
-  place-route-reads.Asked,
-  place-route-reads.Learnt,
+  insert-route-reads.Asked,
+  insert-route-reads.Learnt,
 )
     (save-at-at t)
     save-at.Post
     (save-at-whole-row-requires t)
     (save-at-route-of-requires t)
-    (save-at-store-whole-requires t)
+    (save-at-store-route-requires t)
     (save-at-add-result t)
     (save-at-same-length t)
     (save-at-returns t)
@@ -402,7 +382,7 @@ pub +save-at+save-below-spec : {M : Type 1} → statement M
     (save-at-add-save-below t)
     (save-at-save-below-requires-2 t)
     (save-at-route-of-requires-2 t)
-    (save-at-place-route-requires t)
+    (save-at-insert-route-requires t)
     (save-at-same-length-2 t)
     (save-at-returns-2 t))
     λ t. save-below-lts.spec

@@ -3,8 +3,8 @@ use mathlib.Core.Path.{sym}
 use lib.ListN.{length-set}
 use borrow.Author.Needs.{needs}
 use Rattle.routes.proofs.Words.{store-whole}
-use Rattle.table_save.proofs.store_whole.Statement.{statement}
-use Rattle.table_save.proofs.store_whole.Tie as tie
+use Rattle.list_insert.proofs.store_whole.Statement.{statement}
+use Rattle.list_insert.proofs.store_whole.Tie as tie
 
 mul-at : tie.Need-mul-at
 mul-at c = search needs

@@ -1,7 +1,7 @@
 use borrow.Author.Tests.{le-leb, lt-leb}
 use borrow.Author.Needs.{needs}
-use Rattle.table_save.proofs.all_before.Statement.{statement}
-use Rattle.table_save.proofs.all_before.Tie as tie
+use Rattle.list_insert.proofs.all_before.Statement.{statement}
+use Rattle.list_insert.proofs.all_before.Tie as tie
 
 returns : tie.Need-returns
 returns c = simp (le-leb _ _ (c .if1 .taken))

@@ -1,8 +1,8 @@
 use mathlib.Core.Path.{_∙_}
 use borrow.Author.Needs.{needs}
-use Rattle.table_save.proofs.Insertion.{placed-risen, placed-sunk}
-use Rattle.table_save.proofs.place_route.Statement.{statement}
-use Rattle.table_save.proofs.place_route.Tie as tie
+use Rattle.list_insert.proofs.Loops.{placed-risen, placed-sunk}
+use Rattle.list_insert.proofs.place_route.Statement.{statement}
+use Rattle.list_insert.proofs.place_route.Tie as tie
 
 all-before-requires : tie.Need-all-before-requires
 all-before-requires c κs = search needs

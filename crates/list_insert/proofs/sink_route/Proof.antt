@@ -1,13 +1,13 @@
 use mathlib.Core.List.{List}
 use Prim.Native.Nat.{ℕ}
-use Rattle.table_save.specs.Writing.{sunk}
+use Rattle.list_insert.specs.Insertion.{sunk}
 use mathlib.Core.Path.{refl, ap, _∙_}
 use Prim.Native.Nat.{_-_}
 use native.Mathlib.Omega.{arith}
 use borrow.Author.Needs.{needs}
-use Rattle.table_save.proofs.Insertion.{Sinking, sinking-last, sinking-here, sinking-next}
-use Rattle.table_save.proofs.sink_route.Statement.{statement}
-use Rattle.table_save.proofs.sink_route.Tie as tie
+use Rattle.list_insert.proofs.Loops.{Sinking, sinking-last, sinking-here, sinking-next}
+use Rattle.list_insert.proofs.sink_route.Statement.{statement}
+use Rattle.list_insert.proofs.sink_route.Tie as tie
 
 abbrev Inv-loop : tie.InvT-loop
 Inv-loop list₀ at end q i₀ list i = Sinking list₀ at end q list i

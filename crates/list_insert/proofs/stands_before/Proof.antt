@@ -2,8 +2,8 @@ use mathlib.Core.Path.{_∙_, ap₂}
 use Rattle.bits.specs.Prefix.{precedes}
 use Rattle.prefix.specs.declared.Prefix.{Prefix}
 use borrow.Author.Needs.{needs}
-use Rattle.table_save.proofs.stands_before.Statement.{statement}
-use Rattle.table_save.proofs.stands_before.Tie as tie
+use Rattle.list_insert.proofs.stands_before.Statement.{statement}
+use Rattle.list_insert.proofs.stands_before.Tie as tie
 
 prefix-requires : tie.Need-prefix-requires
 prefix-requires c κs = search needs

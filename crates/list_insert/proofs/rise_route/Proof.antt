@@ -3,10 +3,10 @@ use mathlib.Core.List.{List}
 use Prim.Native.Nat.{ℕ, _+_, _-_}
 use native.Mathlib.Omega.{arith}
 use borrow.Author.Needs.{needs}
-use Rattle.table_save.specs.Writing.{risen}
-use Rattle.table_save.proofs.Insertion.{Rising, rising-last, rising-here, rising-next}
-use Rattle.table_save.proofs.rise_route.Statement.{statement}
-use Rattle.table_save.proofs.rise_route.Tie as tie
+use Rattle.list_insert.specs.Insertion.{risen}
+use Rattle.list_insert.proofs.Loops.{Rising, rising-last, rising-here, rising-next}
+use Rattle.list_insert.proofs.rise_route.Statement.{statement}
+use Rattle.list_insert.proofs.rise_route.Tie as tie
 
 abbrev Inv-loop : tie.InvT-loop
 Inv-loop list₀ at end q i₀ list i = Rising list₀ at end q list i

@@ -1,0 +1,2 @@
+-- A route put into its place in a list.
+pub mod Insertion

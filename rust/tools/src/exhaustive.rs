@@ -1,8 +1,10 @@
 //! Both tries and the segment tables against the run listing, over the whole address space or a sample of it.
 
+use crate::progress::{grouped, Progress};
 use maftehon::calls::{self, Reply};
 use std::ops::Range;
 use std::sync::atomic::{AtomicU64, Ordering};
+use std::sync::Mutex;
 use workload::list_of;
 use workload::segments::{cut_to, room_for, Stores};
 
@@ -110,13 +112,21 @@ impl Structure {
         None
     }
 
-    /// An address of the whole space whose lookup differs from its run. Two threads share the chunks.
-    pub fn difference(&self, runs: &[Run]) -> Option<u32> {
-        let next = AtomicU64::new(0);
+    /// An address of the whole space whose lookup differs from its run. Two threads share the chunks, and tell on
+    /// standard error how many addresses they have taken, with the name of the set.
+    pub fn difference(&self, set: &str, runs: &[Run]) -> Option<u32> {
+        let (name, next, progress) = (self.name(), AtomicU64::new(0), Mutex::new(Progress::start()));
+        let told = |taken: u64, seconds: u64| {
+            format!("{set}, {name}: {} of {} addresses, {seconds} s", grouped(taken), grouped(SPACE))
+        };
         let work = || loop {
             let start = next.fetch_add(CHUNK, Ordering::Relaxed);
             if start >= SPACE {
                 return None;
+            }
+            // A thread that finds the other one telling goes on with its work.
+            if let Ok(mut progress) = progress.try_lock() {
+                progress.tell(|seconds| told(start, seconds));
             }
             if let Some(address) = self.difference_in(runs, start..start + CHUNK) {
                 return Some(address);

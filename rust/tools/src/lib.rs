@@ -7,6 +7,7 @@ pub mod plain_check;
 pub mod plain_segments;
 pub mod plain_trie;
 pub mod plain_walk;
+pub mod progress;
 mod setting;
 
 pub use setting::setting;

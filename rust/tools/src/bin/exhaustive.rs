@@ -1,7 +1,7 @@
 //! `exhaustive [--sample N]`: images, table and segment tables of three sets of 4,096 routes against the run listing, at
 //! every one of the 2^32 addresses, or at those next to a run's ends and every N-th one.
 //!
-//! Prints a line for each set and structure, and ends with 1 at a difference.
+//! Prints a line for each set and structure, tells on standard error how far it is, and ends with 1 at a difference.
 
 use std::process::ExitCode;
 use std::time::Instant;
@@ -30,7 +30,7 @@ fn agrees(kind: Kind, step: Option<u32>) -> bool {
         let start = Instant::now();
         let (addresses, difference) = match step.map(|step| sample_of(&runs, step)) {
             Some(sample) => (sample.len() as u64, structure.difference_in_sample(&runs, &sample)),
-            None => (1 << 32, structure.difference(&runs)),
+            None => (1 << 32, structure.difference(kind.name(), &runs)),
         };
         let (seconds, name) = (start.elapsed().as_secs(), structure.name());
         let verdict = difference.map_or("0 differences".into(), |address| format!("DIFFERS at address {address}"));

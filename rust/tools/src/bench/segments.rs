@@ -1,5 +1,5 @@
-//! Segment tables: lookups against the plain trie, a plain lookup in C and the image at stride 4, and many in one call
-//! against as many calls; and the build.
+//! Segment tables: lookups against the plain trie, a plain lookup in C, the image at stride 4 and a call that does
+//! nothing, and many in one call against as many calls; and the build.
 
 use super::lookups::{against_trie, in_one_call};
 use super::race::{Race, Runner};
@@ -10,7 +10,14 @@ use maftehon::RouteList;
 use workload::segments::{room_for, Stores};
 
 pub fn races(subject: &Subject) -> Vec<Race<'_>> {
-    vec![lookup(subject), lookup_in_c(subject), lookup_in_image(subject), lookup_many(subject), build(subject)]
+    vec![
+        lookup(subject),
+        lookup_in_c(subject),
+        lookup_in_image(subject),
+        nothing(subject),
+        lookup_many(subject),
+        build(subject),
+    ]
 }
 
 fn lookup(subject: &Subject) -> Race<'_> {
@@ -42,6 +49,13 @@ fn lookup_in_image(subject: &Subject) -> Race<'_> {
     let Subject { images: [_, _, (nodes, ports)], addresses, .. } = subject;
     proved("lookup", subject).runner(Runner::Image, addresses.len(), move |number| {
         calls::image_lookup_4(nodes, ports, addresses[number]).answer[1]
+    })
+}
+
+fn nothing(subject: &Subject) -> Race<'_> {
+    let Subject { segments: [first, packed, plain, last], addresses, .. } = subject;
+    proved("lookup, and its call alone", subject).runner(Runner::Nothing, addresses.len(), move |number| {
+        plain_segments::nothing(first, packed, plain, last, addresses[number]).answer[1]
     })
 }
 

@@ -1,0 +1,135 @@
+//! `mft apply`: UPDATE messages applied to the routes of a file.
+
+use super::Command;
+use crate::arguments::{Arguments, Flag, Form, Kind, Operand, OUTPUT};
+use crate::explain;
+use crate::failure::Failure;
+use crate::figures::{bytes, counted, routes};
+use crate::input::{Input, Source};
+use crate::messages::{self, Message};
+use crate::output::Outcome;
+use crate::shown;
+use maftehon::{Prefix, Route, RouteList, Table, ROUTES_LAST};
+use std::collections::BTreeMap;
+use std::ffi::OsStr;
+use std::fmt::Write;
+use std::net::Ipv4Addr;
+
+const PORT: Flag = Flag { long: "port", short: Some("p"), value: "PORT", kind: Kind::Plain, required: true };
+
+/// The command.
+pub const COMMAND: Command = Command {
+    name: "apply",
+    about: "applies BGP UPDATE messages to the routes of a file",
+    form: Form {
+        operands: &[
+            Operand { name: "FILE.routes", kind: Kind::Read, many: false },
+            Operand { name: "MESSAGES", kind: Kind::Read, many: true },
+        ],
+        flags: &[PORT, OUTPUT],
+    },
+    help: "\
+usage: mft apply FILE.routes MESSAGES... --port PORT -o NEW.routes
+
+Applies UPDATE messages of RFC 4271, in order, to a table of the routes of a file, and writes the routes that the table
+then holds. Announced prefixes go to PORT. Each message is applied whole or not at all, and what it did is printed: the
+routes that came, went or changed their port.
+
+A file of messages is binary, one message after the other, or text, one message a line in hexadecimal digits, which may
+be parted by spaces; comments begin with #, and lines that begin with held are skipped.
+
+At the first message that is refused it stops, and writes nothing: what follows a message that is missing would be
+applied to the wrong table.
+
+  -p, --port PORT     the writer's port for announced prefixes, 1 to 4094
+  -o, --output FILE   the new route file; - is standard output, and what the messages did is printed as errors are
+  --help              this text
+
+example: mft apply examples/empty.routes examples/messages/bird.hex --port 9 -o new.routes
+
+Exit status: 0 written; 1 refused; 2 wrong usage, or a file that cannot be read or written.
+",
+    run,
+};
+
+/// Bytes of the message that ends a first transfer, which has nothing in it.
+const END_OF_RIB_BYTES: usize = 23;
+
+fn run(arguments: &Arguments, input: &mut Input) -> Result<Outcome, Failure> {
+    let port = port(arguments.required(PORT.long))?;
+    let (_, list) = input.routes(arguments.operand(0))?;
+    let sources: Vec<Source> =
+        arguments.operands_from(1).iter().map(|file| input.read(file)).collect::<Result<_, _>>()?;
+    let mut table = Table::build(&list, ROUTES_LAST).expect("no list has more routes than the largest table");
+    let (mut said, mut count) = (String::new(), 0);
+    for source in &sources {
+        let messages = messages::of(source)?;
+        if messages.is_empty() {
+            let _ = writeln!(said, "{}: no message in it", source.name);
+        }
+        for message in &messages {
+            said += &apply(&mut table, source, message, port).map_err(|failure| nothing_written(failure, count))?;
+            count += 1;
+        }
+    }
+    let (held, target) = (table.save(), arguments.required(OUTPUT.long));
+    let file = held.write();
+    let after = counted(count, "message", "messages");
+    let about = format!("{} in {}, after {after}", routes(held.len()), bytes(file.len()));
+    Outcome::written(target, file, &said, &about)
+}
+
+/// A number that is too large for any port is handed on as the largest, which the library refuses too.
+fn port(word: &OsStr) -> Result<u16, Failure> {
+    let text = word.to_str().filter(|text| !text.is_empty() && text.bytes().all(|byte| byte.is_ascii_digit()));
+    let text = text.ok_or_else(|| COMMAND.misused(&format!("--port {} is no number", shown::name(word))))?;
+    let port = text.parse().unwrap_or(u16::MAX);
+    // Whether it is a port, the library says of a route to it.
+    let route = Route::new(Ipv4Addr::UNSPECIFIED, 0, port).map_err(|refusal| explain::port(text, refusal))?;
+    Ok(route.port())
+}
+
+/// Applies a message, and says what it did.
+fn apply(table: &mut Table, source: &Source, message: &Message, port: u16) -> Result<String, Failure> {
+    let before = table.save();
+    table.apply(&message.bytes, port).map_err(|refusal| explain::message(&source.name, message, refusal))?;
+    let done = done(&before, &table.save(), message);
+    Ok(format!("{}: {}: {done}", source.name, message.place))
+}
+
+fn nothing_written(failure: Failure, before: u64) -> Failure {
+    let applied = match before {
+        0 => String::new(),
+        1 => " The message before it was not refused.".into(),
+        _ => format!(" The {before} messages before it were not refused."),
+    };
+    failure.with_line(&format!("Nothing is written, since what follows would be applied to the wrong table.{applied}"))
+}
+
+/// What a message did, from the routes held before and after it.
+fn done(before: &RouteList, after: &RouteList, message: &Message) -> String {
+    let [old, new] = [before, after].map(ports_of);
+    let went = old.iter().filter(|(prefix, _)| !new.contains_key(prefix));
+    let went: Vec<String> = went.map(|(prefix, port)| format!("  went     {prefix} {port}\n")).collect();
+    let (mut came, mut changed) = (Vec::new(), Vec::new());
+    for (prefix, port) in &new {
+        match old.get(prefix) {
+            None => came.push(format!("  came     {prefix} {port}\n")),
+            Some(held) if held != port => changed.push(format!("  changed  {prefix} {port}, from port {held}\n")),
+            Some(_) => {}
+        }
+    }
+    let counts = [(came.len(), "came"), (went.len(), "went"), (changed.len(), "changed the port")];
+    let counts = counts.into_iter().filter(|(count, _)| *count > 0);
+    let counts: Vec<String> = counts.map(|(count, what)| format!("{} {what}", routes(count))).collect();
+    let summary = match counts[..] {
+        [] if message.bytes.len() == END_OF_RIB_BYTES => "changed nothing, with nothing in it (End-of-RIB)".into(),
+        [] => "changed nothing".into(),
+        _ => counts.join(", "),
+    };
+    format!("{summary}\n{}", [came, went, changed].concat().concat())
+}
+
+fn ports_of(list: &RouteList) -> BTreeMap<Prefix, u16> {
+    list.routes().map(|route| (route.prefix(), route.port())).collect()
+}

@@ -1,0 +1,145 @@
+//! Texts that people write, line by line, and what is wrong with a line, shown under it.
+
+use crate::failure::Failure;
+use crate::figures::counted;
+use crate::input::Source;
+use crate::shown;
+use std::fmt::Write;
+use std::ops::Range;
+
+const BYTE_ORDER_MARK: &[u8] = b"\xEF\xBB\xBF";
+const COMMENT: char = '#';
+const BLANKS: [char; 2] = [' ', '\t'];
+
+/// The most faults that are shown; the others are counted.
+const FAULTS_SHOWN: usize = 10;
+/// The most characters that are shown of a line, and how many of them before the part at fault.
+const LINE_SHOWN: usize = 160;
+const SHOWN_BEFORE: usize = 60;
+
+/// A line of a text.
+#[derive(Clone, PartialEq, Eq, Debug)]
+pub struct Line {
+    /// Its number, from 1.
+    pub number: usize,
+    /// What it says, without its end. Bytes that are no text are replaced.
+    pub text: String,
+}
+
+/// A word of a line, and where it stands.
+#[derive(Clone, PartialEq, Eq, Debug)]
+pub struct Word<'a> {
+    /// What it says.
+    pub text: &'a str,
+    /// Its place in the line's text.
+    pub at: Range<usize>,
+}
+
+/// The lines of a text. They may end as on any system: with a line feed, a carriage return, or both.
+///
+/// # Errors
+///
+/// Where the text is UTF-16, as some editors save it.
+pub fn of(source: &Source) -> Result<Vec<Line>, Failure> {
+    if source.bytes.starts_with(b"\xFF\xFE") || source.bytes.starts_with(b"\xFE\xFF") {
+        let advice = "Save it as UTF-8, or as plain text.";
+        return Err(Failure::refused(format!("{}: the text is UTF-16\n  {advice}", source.name)));
+    }
+    let bytes = source.bytes.strip_prefix(BYTE_ORDER_MARK).unwrap_or(&source.bytes);
+    let text = String::from_utf8_lossy(bytes).replace("\r\n", "\n");
+    let lines = text.split(['\n', '\r']).enumerate();
+    Ok(lines.map(|(before, text)| Line { number: before + 1, text: text.into() }).collect())
+}
+
+impl Line {
+    /// What stands before the comment.
+    pub fn content(&self) -> &str {
+        self.text.split(COMMENT).next().unwrap_or_default()
+    }
+
+    /// The words before the comment, parted by spaces and tabs.
+    pub fn words(&self) -> Vec<Word<'_>> {
+        let mut words = Vec::new();
+        let mut start = 0;
+        for text in self.content().split(BLANKS) {
+            let at = start..start + text.len();
+            // The blank after a word has one byte.
+            start = at.end + 1;
+            if !text.is_empty() {
+                words.push(Word { text, at });
+            }
+        }
+        words
+    }
+
+    /// What is wrong with a part of this line, and what to do about it.
+    pub fn fault(&self, at: Range<usize>, wrong: impl Into<String>, advice: impl Into<String>) -> Fault {
+        Fault { line: self.number, at, wrong: wrong.into(), advice: advice.into(), beside: None }
+    }
+}
+
+/// What is wrong with a line.
+#[derive(Clone, PartialEq, Eq, Debug)]
+pub struct Fault {
+    line: usize,
+    at: Range<usize>,
+    wrong: String,
+    advice: String,
+    beside: Option<usize>,
+}
+
+impl Fault {
+    /// The same, with another line shown before it.
+    pub fn beside(self, line: &Line) -> Fault {
+        Fault { beside: Some(line.number), ..self }
+    }
+}
+
+/// All that is wrong with a text, in the order of its lines.
+pub fn at_fault(source: &Source, lines: &[Line], mut faults: Vec<Fault>) -> Failure {
+    faults.sort_by_key(|fault| fault.line);
+    let mut text = String::new();
+    for fault in faults.iter().take(FAULTS_SHOWN) {
+        let before = if text.is_empty() { "" } else { "mft: " };
+        let _ = write!(text, "{before}{}: {}", source.name, shown_fault(lines, fault));
+    }
+    if faults.len() > FAULTS_SHOWN {
+        let more = counted((faults.len() - FAULTS_SHOWN) as u64, "line is", "lines are");
+        let _ = writeln!(text, "mft: {}: {more} at fault besides.", source.name);
+    }
+    Failure::refused(text)
+}
+
+/// The line at fault with a mark under the part, and the line beside it, if any, above.
+fn shown_fault(lines: &[Line], fault: &Fault) -> String {
+    let text_of = |number: usize| lines.get(number - 1).map_or("", |line| line.text.as_str());
+    let width = fault.line.to_string().len();
+    let mut text = format!("line {}: {}\n", fault.line, fault.wrong);
+    if let Some(beside) = fault.beside {
+        let _ = writeln!(text, "  {beside:>width$} | {}", around(text_of(beside), &(0..0)).0);
+    }
+    let (line, mark) = around(text_of(fault.line), &fault.at);
+    let _ = writeln!(text, "  {} | {line}", fault.line);
+    let _ = writeln!(text, "  {:width$} | {mark}", "");
+    let _ = writeln!(text, "  {}", fault.advice);
+    text
+}
+
+/// The line, of a long one what stands around the part at fault, and the marks that go under that part. A tab before it
+/// is a tab in both, so that the marks stand right however wide it is.
+fn around(text: &str, at: &Range<usize>) -> (String, String) {
+    let characters: Vec<char> = text.chars().collect();
+    // A part that is missing is marked past the end of the line.
+    let column = |byte: usize| text.get(..byte).map_or(characters.len() + 1, |before| before.chars().count());
+    let (first, end) = (column(at.start), column(at.end));
+    let from = if characters.len() > LINE_SHOWN { first.saturating_sub(SHOWN_BEFORE) } else { 0 };
+    let to = characters.len().min(from + LINE_SHOWN);
+    let seen = |character: &char| if *character == '\t' { '\t' } else { shown::seen(*character) };
+    let blank = |character: &char| if *character == '\t' { '\t' } else { ' ' };
+    let dots = |cut: bool| if cut { "…" } else { "" };
+    let line: String = characters[from..to].iter().map(seen).collect();
+    let before: String = characters.iter().chain([&' ']).take(first).skip(from).map(blank).collect();
+    let marks = "^".repeat(end.min(to).saturating_sub(first).max(1));
+    let indent = if from > 0 { " " } else { "" };
+    (format!("{}{line}{}", dots(from > 0), dots(to < characters.len())), format!("{indent}{before}{marks}"))
+}

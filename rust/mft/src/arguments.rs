@@ -73,9 +73,21 @@ impl Arguments {
     }
 
     /// The value of an option that the form requires.
+    ///
+    /// # Panics
+    ///
+    /// Where the form does not require it, and it is not given.
     pub fn required(&self, long: &str) -> &OsStr {
         self.value(long).expect("a command line without a required option is not taken")
     }
+}
+
+/// Where the value of an option is.
+enum Value<'a> {
+    /// It is the next word: `--port 9`.
+    Next,
+    /// It is part of the word: `--port=9`, `-oFILE`.
+    Joined(&'a [u8]),
 }
 
 /// Sorts the words out; none where they ask for help.
@@ -95,10 +107,13 @@ pub fn sorted_out(form: &Form, words: &[OsString]) -> Result<Option<Arguments>, 
         } else if asks_for_help(word) {
             return Ok(None);
         } else {
-            let (flag, joined) = form.flag(word)?;
-            let value = match joined {
-                Some(value) => value,
-                None => words.next().filter(|next| form.flag(next).is_err()).cloned().ok_or_else(|| without(flag))?,
+            let (flag, value) = form.flag(word)?;
+            let value = match value {
+                Value::Joined(value) => OsStr::from_bytes(value).to_os_string(),
+                Value::Next => {
+                    let next = words.next().filter(|next| form.flag(next).is_err());
+                    next.cloned().ok_or_else(|| without(flag))?
+                }
             };
             if arguments.value(flag.long).is_some() {
                 return Err(format!("--{} is given twice", flag.long));
@@ -125,11 +140,10 @@ fn without(flag: &Flag) -> String {
 }
 
 impl Form {
-    /// The option that the word names, and its value if that is part of the word: `--port=9`, `-oFILE`.
-    fn flag(&self, word: &OsStr) -> Result<(&Flag, Option<OsString>), String> {
-        let found = self.flags.iter().find_map(|flag| flag.named_by(word.as_bytes()).map(|joined| (flag, joined)));
-        let (flag, joined) = found.ok_or_else(|| format!("{} is no option of this command", shown::name(word)))?;
-        Ok((flag, joined.map(|bytes| OsStr::from_bytes(bytes).to_os_string())))
+    /// The option that the word names, and where its value is.
+    fn flag<'a>(&self, word: &'a OsStr) -> Result<(&Flag, Value<'a>), String> {
+        let found = self.flags.iter().find_map(|flag| Some((flag, flag.named_by(word.as_bytes())?)));
+        found.ok_or_else(|| format!("{} is no option of this command", shown::name(word)))
     }
 
     fn check(&self, arguments: &Arguments) -> Result<(), String> {
@@ -163,15 +177,18 @@ impl Form {
 }
 
 impl Flag {
-    /// Whether the word names this option, and the value that is part of the word.
-    fn named_by<'a>(&self, word: &'a [u8]) -> Option<Option<&'a [u8]>> {
-        let long = word.strip_prefix(b"--").and_then(|rest| rest.strip_prefix(self.long.as_bytes()));
-        let short = || word.strip_prefix(b"-")?.strip_prefix(self.short?.as_bytes()).map(Some);
-        match long {
-            Some([]) => Some(None),
-            Some([b'=', value @ ..]) => Some(Some(value)),
-            Some(_) => None,
-            None => short().map(|value| value.filter(|value| !value.is_empty())),
+    /// Where the value of this option is, if the word names it.
+    fn named_by<'a>(&self, word: &'a [u8]) -> Option<Value<'a>> {
+        match word.strip_prefix(b"--") {
+            Some(long) => match long.strip_prefix(self.long.as_bytes())? {
+                [] => Some(Value::Next),
+                [b'=', value @ ..] => Some(Value::Joined(value)),
+                _ => None,
+            },
+            None => match word.strip_prefix(b"-")?.strip_prefix(self.short?.as_bytes())? {
+                [] => Some(Value::Next),
+                value => Some(Value::Joined(value)),
+            },
         }
     }
 

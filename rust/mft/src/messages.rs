@@ -90,7 +90,7 @@ fn message_of(line: &Line) -> Result<Option<Message>, Fault> {
         let advice = "Write a message as pairs of the digits 0 to 9 and a to f, and put a # before a comment.";
         return Err(line.fault(at..at + wrong.len_utf8(), "this is no hexadecimal digit", advice));
     }
-    let digits: Vec<u8> = words.iter().flat_map(|word| word.text.bytes()).map(value_of).collect();
+    let digits: Vec<u8> = words.iter().flat_map(|word| word.text.bytes()).filter_map(value_of).collect();
     if digits.len() % 2 == 1 {
         let last = words.last().map_or(first.at.clone(), |last| last.at.end - 1..last.at.end);
         let wrong = format!("there are {} digits, and a byte has two", digits.len());
@@ -101,6 +101,6 @@ fn message_of(line: &Line) -> Result<Option<Message>, Fault> {
 }
 
 /// The value of a hexadecimal digit.
-fn value_of(digit: u8) -> u8 {
-    char::from(digit).to_digit(16).map_or(0, |value| value as u8)
+fn value_of(digit: u8) -> Option<u8> {
+    u8::try_from(char::from(digit).to_digit(16)?).ok()
 }

@@ -4,7 +4,7 @@ use maftehon::{Route, RouteList};
 use std::net::Ipv4Addr;
 
 /// Two digits of this base number 4,096 routes.
-const BASE: usize = 64;
+const BASE: u32 = 64;
 
 /// A list whose routes can be told apart by what a lookup answers.
 ///
@@ -29,24 +29,24 @@ impl Labelled {
     /// The route that decides about the address; none where no route matches.
     pub fn winner(&self, address: Ipv4Addr) -> Option<Route> {
         let [high, low] = [&self.high, &self.low].map(|list| list.scan(address).map(digit_of));
-        self.routes.get(high? * BASE + low?).copied()
+        let number = high? * BASE + low?;
+        self.routes.get(number as usize).copied()
     }
 }
 
 /// The list with a digit of each route's number in place of its port.
-fn relabelled(list: &RouteList, digit: impl Fn(usize) -> usize) -> RouteList {
-    let labelled = |(number, route): (usize, Route)| {
-        [u32::from(route.address()), route.length().into(), u32::from(port_of(digit(number)))]
-    };
-    let words = list.routes().enumerate().flat_map(labelled).collect();
+fn relabelled(list: &RouteList, digit: impl Fn(u32) -> u32) -> RouteList {
+    let labelled =
+        |(number, route): (u32, Route)| [route.address().into(), route.length().into(), port_of(digit(number))];
+    let words = (0..).zip(list.routes()).flat_map(labelled).collect();
     RouteList::from_words(words).expect("a valid list stays valid with other ports from 1 to 64")
 }
 
 /// Port 0 means that there is no route, so that digit 0 is port 1.
-fn port_of(digit: usize) -> u16 {
-    1 + digit as u16
+fn port_of(digit: u32) -> u32 {
+    digit + 1
 }
 
-fn digit_of(port: u16) -> usize {
-    usize::from(port - 1)
+fn digit_of(port: u16) -> u32 {
+    u32::from(port) - 1
 }

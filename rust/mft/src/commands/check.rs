@@ -18,9 +18,9 @@ pub const COMMAND: Command = Command {
     help: "\
 usage: mft check FILE.routes
 
-Says that a route file is good, how many routes and bytes it has, and which prefixes have bits set past their length. Those
-are no fault: whoever reads the file clears them. A file that is refused is explained: the route and the byte, what stands
-there, and what to do about it. Routes are counted from 1, and bytes from 0.
+Says that a route file is good, how many routes and bytes it has, and which prefixes have bits set past their length.
+Those are no fault: whoever reads the file clears them. A file that is refused is explained: the route and the byte,
+what stands there, and what to do about it. Routes are counted from 1, and bytes from 0.
 
   --help              this text
 
@@ -42,9 +42,8 @@ fn run(arguments: &Arguments, input: &mut Input) -> Result<Outcome, Failure> {
         1 => "in 1 route bits are set past the length of the prefix".into(),
         count => format!("in {} routes bits are set past the length of the prefix", grouped(count as u64)),
     };
-    let rows: Vec<[String; 5]> = spare.iter().map(row).collect();
-    let lines = aligned([Side::Right, Side::Right, Side::Left, Side::Left, Side::Left], &rows);
-    let lines: String = lines.lines().map(|line| format!("  {line}\n")).collect();
+    let rows: Vec<[String; 6]> = spare.iter().map(row).collect();
+    let lines = aligned([Side::Left, Side::Right, Side::Right, Side::Left, Side::Left, Side::Left], &rows);
     Ok(Outcome::said(format!("{found}; {count}, and reading clears them:\n{lines}")))
 }
 
@@ -55,9 +54,11 @@ fn with_spare_bits<'a>(source: &'a Source, list: &RouteList) -> Vec<(Written<'a>
     routes_of(&source.bytes).zip(list.routes()).filter(|(written, _)| differs(written)).collect()
 }
 
-fn row((written, route): &(Written, Route)) -> [String; 5] {
+fn row((written, route): &(Written, Route)) -> [String; 6] {
     let prefix = format!("{}/{}", written.address(), written.length());
+    // The first column is empty, and indents the line.
     [
+        String::new(),
         format!("route {}", grouped(written.number as u64)),
         format!("byte {}", written.at),
         prefix,

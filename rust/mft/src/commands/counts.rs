@@ -7,7 +7,7 @@ use crate::failure::Failure;
 use crate::figures::{self, grouped};
 use crate::input::Input;
 use crate::output::Outcome;
-use maftehon::{RouteList, Table, ROUTES_LAST};
+use maftehon::{Route, RouteList, Table, ROUTES_LAST};
 use std::collections::BTreeSet;
 
 /// The command.
@@ -18,8 +18,8 @@ pub const COMMAND: Command = Command {
     help: "\
 usage: mft counts FILE.routes
 
-Says how many of the 4,294,967,296 addresses have no route, and how many go to each port that a route names, in ascending
-order. A port has 0 where longer routes take all addresses of its own.
+Says how many of the 4,294,967,296 addresses have no route, and how many go to each port that a route names, in
+ascending order. A port has 0 where longer routes take all addresses of its own.
 
   --help              this text
 
@@ -42,7 +42,7 @@ fn run(arguments: &Arguments, input: &mut Input) -> Result<Outcome, Failure> {
 /// How many addresses have no route, and how many go to each port of a route.
 pub fn counts_of(list: &RouteList) -> Vec<(Option<u16>, u64)> {
     let table = Table::build(list, ROUTES_LAST).expect("no list has more routes than the largest table");
-    let ports: BTreeSet<u16> = list.routes().map(|route| route.port()).collect();
+    let ports: BTreeSet<u16> = list.routes().map(Route::port).collect();
     let ports = std::iter::once(None).chain(ports.into_iter().map(Some));
     ports.map(|port| (port, table.addresses(port))).collect()
 }

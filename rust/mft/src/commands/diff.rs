@@ -25,9 +25,9 @@ pub const COMMAND: Command = Command {
     help: "\
 usage: mft diff OLD.routes NEW.routes
 
-Lists every longest run of addresses that go from one port to another: its first and its last address, the port in OLD and
-the port in NEW, and how many addresses it has. Then how many addresses change in all. Files with different routes may
-send every address the same way: then no address changes.
+Lists every longest run of addresses that go from one port to another: its first and its last address, the port in OLD
+and the port in NEW, and how many addresses it has. Then how many addresses change in all. Files with different routes
+may send every address the same way: then no address changes.
 
   --help              this text
 

@@ -66,9 +66,9 @@ fn run(arguments: &Arguments, input: &mut Input) -> Result<Outcome, Failure> {
         runs: list.runs(),
         counts: counts_of(&list),
     };
-    let (html, target) = (facts.html(), arguments.required(OUTPUT.long));
-    let sheets = html.matches("<section ").count() as u64;
-    Outcome::written(target, html.into_bytes(), "", &counted(sheets, "page", "pages"))
+    let page = facts.page();
+    let about = counted(page.sheets as u64, "page", "pages");
+    Outcome::written(arguments.required(OUTPUT.long), page.html.into_bytes(), "", &about)
 }
 
 fn title(given: Option<&OsStr>, file: &OsStr) -> Result<String, Failure> {

@@ -5,7 +5,7 @@ use crate::arguments::{Arguments, Form, Kind, Operand};
 use crate::failure::Failure;
 use crate::input::Input;
 use crate::output::Outcome;
-use maftehon::Run;
+use std::fmt::Write;
 
 /// The command.
 pub const COMMAND: Command = Command {
@@ -15,9 +15,9 @@ pub const COMMAND: Command = Command {
     help: "\
 usage: mft runs FILE.routes
 
-Lists every longest run of neighbouring addresses that go to one port, in order: a line with the number of runs, then the
-first address, the last address and the port of each. Port 0 means that there is no route. It prints what the program
-runs prints for every file that program shows, and lists larger files too.
+Lists every longest run of neighbouring addresses that go to one port, in order: a line with the number of runs, then
+the first address, the last address and the port of each. Port 0 means that there is no route. It prints what the
+program runs prints for every file that program shows, and lists larger files too.
 
   --help              this text
 
@@ -31,6 +31,9 @@ Exit status: 0 listed; 1 refused; 2 wrong usage, or a file that cannot be read.
 fn run(arguments: &Arguments, input: &mut Input) -> Result<Outcome, Failure> {
     let (_, list) = input.routes(arguments.operand(0))?;
     let runs = list.runs();
-    let lines: String = runs.iter().map(|run: &Run| format!("{run}\n")).collect();
-    Ok(Outcome::said(format!("runs {}\n{lines}", runs.len())))
+    let mut text = format!("runs {}\n", runs.len());
+    for run in runs {
+        let _ = writeln!(text, "{run}");
+    }
+    Ok(Outcome::said(text))
 }

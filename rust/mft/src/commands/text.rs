@@ -15,8 +15,8 @@ pub const COMMAND: Command = Command {
     help: "\
 usage: mft text FILE.routes
 
-Prints the routes of a file, one a line, in list order: a prefix and a port. mft compile makes the same file of it again,
-with the bits cleared that were set past the length of a prefix. Of a file without routes it prints nothing.
+Prints the routes of a file, one a line, in list order: a prefix and a port. mft compile makes the same file of it
+again, with the bits cleared that were set past the length of a prefix. Of a file without routes it prints nothing.
 
   --help              this text
 

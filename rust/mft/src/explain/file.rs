@@ -6,7 +6,7 @@ use super::Explanation;
 use crate::failure::Failure;
 use crate::figures::{bytes, grouped};
 use crate::input::Source;
-use maftehon::{Refusal, ROUTES_LAST};
+use maftehon::{Refusal, Route, ROUTES_LAST};
 use std::cmp::Ordering;
 use std::ops::Range;
 
@@ -123,7 +123,7 @@ fn wrong_with(refusal: Refusal, before: Option<Written>, route: Written) -> (Str
 }
 
 fn not_above(before: Option<Written>, route: Written) -> (String, &'static str) {
-    let prefix = |route: Written| route.read_alone().map(|route| route.prefix());
+    let prefix = |route: Written| route.read_alone().map(Route::prefix);
     let same = before.is_some_and(|before| prefix(before) == prefix(route));
     if same {
         let advice = "Keep one route for each prefix. Write the file again from its text with `mft compile`.";

@@ -85,8 +85,8 @@ fn foot(facts: &Facts, number: usize, count: usize) -> String {
 
 fn piece_html(table: &Table, piece: &Piece) -> String {
     let continued = if piece.rows.start > 0 { ", continued" } else { "" };
-    let class = if has_names(table) { "" } else { " class=\"unnamed\"" };
-    let mut html = format!("<h2>{}{continued}</h2>\n<table{class}>\n<colgroup>", table.heading);
+    let class = if has_names(table) { "named" } else { table.class };
+    let mut html = format!("<h2>{}{continued}</h2>\n<table class=\"{class}\">\n<colgroup>", table.heading);
     for Column { class, .. } in &table.columns {
         let _ = write!(html, "<col class=\"{class}\">");
     }

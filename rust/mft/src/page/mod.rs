@@ -38,12 +38,20 @@ pub struct Facts {
     pub counts: Vec<(Option<u16>, u64)>,
 }
 
+/// A page, ready to be printed.
+pub struct Page {
+    /// The document.
+    pub html: String,
+    /// How many sheets of paper it takes.
+    pub sheets: usize,
+}
+
 impl Facts {
-    /// The page, as HTML.
-    pub fn html(&self) -> String {
+    /// The page that says all this.
+    pub fn page(&self) -> Page {
         let head = html::Head::of(self);
         let tables = rows::tables(self);
         let sheets = sheets::sheets(&tables, head.lines());
-        html::document(self, &head, &tables, &sheets)
+        Page { html: html::document(self, &head, &tables, &sheets), sheets: sheets.len() }
     }
 }

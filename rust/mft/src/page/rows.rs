@@ -6,7 +6,7 @@ use crate::figures::grouped;
 use maftehon::Run;
 
 /// The width of a name's line, in digits.
-const NAME_DIGITS: usize = 31;
+const NAME_DIGITS: usize = 30;
 
 /// A table of the page.
 pub struct Table {

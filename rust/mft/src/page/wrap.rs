@@ -3,9 +3,10 @@
 /// Half the width of a digit is what widths are counted in.
 const HALVES_OF_A_DIGIT: usize = 2;
 
-/// How wide a character is in a sans-serif font, in halves of a digit's width, or a bit more.
+/// How wide a character is in a sans-serif font, in halves of a digit's width: as this or less.
 fn halves(character: char) -> usize {
     match character {
+        ' ' | ',' | '.' | 'i' | 'j' | 'l' => 1,
         'm' | 'w' | 'A'..='V' | 'X'..='Z' => 3,
         'W' | '@' | '%' => 4,
         character if character.is_ascii() => HALVES_OF_A_DIGIT,
@@ -21,9 +22,9 @@ pub fn wrapped(text: &str, digits: usize) -> Vec<String> {
     let mut width = 0;
     for word in text.split_whitespace() {
         let word_width: usize = word.chars().map(halves).sum();
-        if width > 0 && width + HALVES_OF_A_DIGIT + word_width <= most {
+        if width > 0 && width + halves(' ') + word_width <= most {
             push(&mut lines, ' ');
-            width += HALVES_OF_A_DIGIT;
+            width += halves(' ');
         } else if width > 0 {
             lines.push(String::new());
             width = 0;

@@ -4,8 +4,8 @@ use std::fmt;
 
 /// The exit status of a refusal.
 const REFUSED: u8 = 1;
-/// The exit status of wrong usage, and of a file that cannot be read or written. It is not that of a difference, so that
-/// a missing file does not look like one.
+/// The exit status of wrong usage, and of a file that cannot be read or written. It is not that of a difference, so
+/// that a missing file does not look like one.
 const NOT_TRIED: u8 = 2;
 
 /// What went wrong, in lines, and the exit status for it.

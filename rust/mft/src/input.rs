@@ -11,8 +11,8 @@ use std::io::{self, Read};
 /// The name of standard input on the command line.
 pub const STANDARD: &str = "-";
 
-/// The most bytes that are read of a file. The largest route file has 28,677, so that what is longer is something else, or
-/// has no end.
+/// The most bytes that are read of a file. The largest route file has 28,677, so that what is longer is something else,
+/// or has no end.
 const BYTES_LAST: u64 = 64 << 20;
 
 /// What a file holds, and what it is called.
@@ -44,11 +44,13 @@ impl<'a> Input<'a> {
         let bytes = if file == STANDARD { all_of(&mut self.stdin) } else { File::open(file).and_then(all_of) };
         match bytes {
             Ok(Some(bytes)) => Ok(Source { name, bytes }),
-            Ok(None) => Err(Failure::file(format!(
-                "{name}: has more than 64 MiB, and is not read\n  See that it is the right file: the largest route file has 28,677 bytes."
-            ))),
+            Ok(None) => {
+                let advice = "See that it is the right file: the largest route file has 28,677 bytes.";
+                Err(Failure::file(format!("{name}: has more than 64 MiB, and is not read\n  {advice}")))
+            }
             Err(error) => {
-                Err(Failure::file(format!("{name}: cannot be read: {error}\n  See that the name is right, and that you may read the file.")))
+                let advice = "See that the name is right, and that you may read the file.";
+                Err(Failure::file(format!("{name}: cannot be read: {error}\n  {advice}")))
             }
         }
     }

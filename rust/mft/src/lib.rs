@@ -1,11 +1,11 @@
 //! Route files from the command line, for whoever stands at the gateway.
 //!
 //! All that is said about routes, the proved library `maftehon` is asked: whether a file is valid, which route matches,
-//! what a message does, where runs end, how many addresses a port has. This package reads, writes and explains. Where it
-//! looks into the bytes of a refused file, that is to show the place which the library has named.
+//! what a message does, where runs end, how many addresses a port has. This package reads, writes and explains. Where
+//! it looks into the bytes of a refused file, that is to show the place which the library has named.
 //!
-//! A reader starts at [`commands`], which has one file for each command. [`run`] is the whole program but for the streams
-//! of its process, so that tests call it as the shell does.
+//! A reader starts at [`commands`], which has one file for each command. [`run`] is the whole program but for the
+//! streams of its process, so that tests call it as the shell does.
 
 #![warn(missing_docs, clippy::missing_errors_doc)]
 

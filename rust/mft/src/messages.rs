@@ -35,15 +35,15 @@ pub fn of(source: &Source) -> Result<Vec<Message>, Failure> {
     }
 }
 
-/// A message begins with a byte that begins no text, and has bytes that stand in none, such as its type. What has neither
-/// a first byte nor lines is a message of no bytes.
+/// A message begins with a byte that begins no text, and has bytes that stand in none, such as its type. What has
+/// neither a first byte nor lines is a message of no bytes.
 fn is_text(bytes: &[u8]) -> bool {
     let is_control = |byte: &u8| byte.is_ascii_control() && !b"\t\n\r".contains(byte);
     bytes.first().is_some_and(|first| *first != MARKER_BYTE) && !bytes.iter().any(is_control)
 }
 
-/// The bytes parted at the lengths that the messages state. What cannot be parted so is left whole, and the library says
-/// what is wrong with it.
+/// The bytes parted at the lengths that the messages state. What cannot be parted so is left whole, and the library
+/// says what is wrong with it.
 fn in_bytes(bytes: &[u8]) -> Vec<Message> {
     let mut messages = Vec::new();
     let mut at = 0;

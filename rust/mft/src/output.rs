@@ -49,7 +49,8 @@ impl Outcome {
     }
 }
 
-/// Writes the file whole, or leaves it as it was: the bytes go to a temporary file beside it, which then takes its name.
+/// Writes the file whole, or leaves it as it was: the bytes go to a temporary file beside it, which then takes its
+/// name.
 fn write(target: &Path, bytes: &[u8]) -> io::Result<()> {
     // A link stays a link: what it leads to is written.
     let target = target.canonicalize().unwrap_or_else(|_| target.to_path_buf());

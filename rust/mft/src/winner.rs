@@ -8,10 +8,10 @@ const BASE: u32 = 64;
 
 /// A list whose routes can be told apart by what a lookup answers.
 ///
-/// A lookup answers a port, and two routes may have one port. So the routes are given their own numbers in place of their
-/// ports, and the longest match, which the library finds, answers its number. There are 4,096 numbers and 4,094 ports:
-/// hence two digits of base 64, in two lists with the prefixes of the first. Both have the same longest match, and the
-/// two ports that they answer are the digits of its number.
+/// A lookup answers a port, and two routes may have one port. So the routes are given their own numbers in place of
+/// their ports, and the longest match, which the library finds, answers its number. There are 4,096 numbers and 4,094
+/// ports: hence two digits of base 64, in two lists with the prefixes of the first. Both have the same longest match,
+/// and the two ports that they answer are the digits of its number.
 pub struct Labelled {
     routes: Vec<Route>,
     high: RouteList,

@@ -66,8 +66,8 @@ fn run(arguments: &Arguments, input: &mut Input) -> Result<Outcome, Failure> {
     Ok(Outcome { status: DIFFERENT, ..Outcome::said(said) })
 }
 
-/// The stretches on which two listings of all addresses differ. A new stretch begins where a run of one of them does, so
-/// that one of its two ports is another than before: neighbouring stretches are never one change.
+/// The stretches on which two listings of all addresses differ. A new stretch begins where a run of one of them does,
+/// so that one of its two ports is another than before: neighbouring stretches are never one change.
 fn changes(old: &[Run], new: &[Run]) -> Vec<Change> {
     let mut changes = Vec::new();
     let (mut old, mut new) = (old.iter().peekable(), new.iter().peekable());

@@ -107,7 +107,8 @@ fn help() -> String {
     text + "\n  mft COMMAND --help says more about a command, and so does mft help COMMAND.\n  \
             mft --version prints the version.\n\n\
             - as a file that is read is standard input; after -o it is standard output.\n\n\
-            Exit status: 0 done; 1 refused, or different (diff); 2 wrong usage, or a file that cannot be read or written.\n"
+            Exit status: 0 done; 1 refused, or different (diff);\n\
+            2 wrong usage, or a file that cannot be read or written.\n"
 }
 
 impl Command {

@@ -60,7 +60,8 @@ impl Head {
 pub fn document(facts: &Facts, head: &Head, tables: &[Table], sheets: &[Vec<Piece>]) -> String {
     let title = escaped(&facts.title);
     let mut html = format!(
-        "<!DOCTYPE html>\n<html lang=\"en\">\n<head>\n<meta charset=\"utf-8\">\n<title>{title}</title>\n<style>\n{STYLE}</style>\n</head>\n<body>\n"
+        "<!DOCTYPE html>\n<html lang=\"en\">\n<head>\n<meta charset=\"utf-8\">\n<title>{title}</title>\n\
+         <style>\n{STYLE}</style>\n</head>\n<body>\n"
     );
     for (before, pieces) in sheets.iter().enumerate() {
         let top = if before == 0 { head.html() } else { running(facts) };

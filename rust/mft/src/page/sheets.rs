@@ -3,8 +3,8 @@
 use super::rows::Table;
 use std::ops::Range;
 
-/// The lines of a sheet between its upper margin and its foot. There is room for two more: a browser rounds the height of
-/// a row to its own dots.
+/// The lines of a sheet between its upper margin and its foot. There is room for two more: a browser rounds the height
+/// of a row to its own dots.
 const SHEET_LINES: usize = 52;
 /// The lines of the short heading on top of every sheet but the first.
 const RUNNING_LINES: usize = 2;

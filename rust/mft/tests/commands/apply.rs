@@ -160,7 +160,8 @@ fn it_stops_at_the_first_message_that_is_refused() {
         "mft: /messages: line 3: this is no UPDATE message: it has 1 byte, and the shortest has 23 (refusal 14)\n\
          \u{20} bytes  [ff]\n\
          \u{20} See that it is one whole message, from its marker on.\n\
-         \u{20} Nothing is written, since what follows would be applied to the wrong table. The 2 messages before it were not refused.\n"
+         \u{20} Nothing is written, since what follows would be applied to the wrong table. \
+         The 2 messages before it were not refused.\n"
     );
 }
 

@@ -12,7 +12,8 @@ fn said_of(file: &[u8]) -> String {
 #[test]
 fn a_good_file_is_called_good() {
     let said = mft(&["check", &example("line.routes")]).done();
-    assert!(said.ends_with("line.routes: good, 116 routes in 793 bytes; no bits are set past the length of a prefix\n"));
+    let expected = "line.routes: good, 116 routes in 793 bytes; no bits are set past the length of a prefix\n";
+    assert!(said.ends_with(expected), "{said}");
     assert!(mft(&["check", &example("empty.routes")]).done().contains("good, 0 routes in 5 bytes"));
     assert!(mft_reading(&file_of_many(4096), &["check", "-"]).done().contains("good, 4,096 routes in 28,677 bytes"));
 }

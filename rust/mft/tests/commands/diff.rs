@@ -127,7 +127,8 @@ fn different_routes_may_send_every_address_the_same_way() {
     let route = |value: u32, length| [value, length, 7];
     let whole = file_of(&route(0x0A00_0000, 8));
     let halves = file_of(&[route(0x0A00_0000, 9), route(0x0A80_0000, 9)].concat());
-    let said = "no address changes the port, though the routes differ: 1 route in the old file alone, 2 routes in the new one\n";
+    let said = "no address changes the port, though the routes differ: \
+                1 route in the old file alone, 2 routes in the new one\n";
     assert_eq!(diff(&whole, &halves), (said.to_string(), 0));
 }
 

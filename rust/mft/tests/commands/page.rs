@@ -230,7 +230,8 @@ fn text_is_parted_at_spaces_and_no_character_is_lost() {
     assert_eq!(wrapped("0123456789", 4), ["0123", "4567", "89"]);
     for seed in seeds(200) {
         let mut random = Random::new(seed);
-        let text: String = (0..random.index(60)).map(|_| random.pick(&['a', 'W', 'i', ' ', '1', 'ß', '工'])).collect();
+        let letters = ['a', 'W', 'i', ' ', '1', 'ß', '工'];
+        let text: String = (0..random.index(60)).map(|_| random.pick(&letters)).collect();
         let lines = wrapped(&text, 2 + random.index(20));
         let letters = |text: &str| text.chars().filter(|c| *c != ' ').collect::<String>();
         assert_eq!(letters(&lines.concat()), letters(&text), "MAFTEHON_SEED={seed}");

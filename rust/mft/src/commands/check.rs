@@ -38,13 +38,11 @@ fn run(arguments: &Arguments, input: &mut Input) -> Result<Outcome, Failure> {
     if spare.is_empty() {
         return Ok(Outcome::said(format!("{found}; no bits are set past the length of a prefix\n")));
     }
-    let count = match spare.len() {
-        1 => "in 1 route bits are set past the length of the prefix".into(),
-        count => format!("in {} routes bits are set past the length of the prefix", grouped(count as u64)),
-    };
+    let count = routes(spare.len());
     let rows: Vec<[String; 6]> = spare.iter().map(row).collect();
     let lines = aligned([Side::Left, Side::Right, Side::Right, Side::Left, Side::Left, Side::Left], &rows);
-    Ok(Outcome::said(format!("{found}; {count}, and reading clears them:\n{lines}")))
+    let head = format!("In {count} bits are set past the length of the prefix, which reading clears:");
+    Ok(Outcome::said(format!("{found}\n{head}\n{lines}")))
 }
 
 /// The routes whose bytes are not those that the library writes for them.

@@ -8,6 +8,7 @@ mod compile;
 mod counts;
 mod date;
 mod diff;
+mod document;
 mod files;
 mod lookup;
 mod noise;

@@ -21,6 +21,7 @@ pub mod lines;
 pub mod messages;
 pub mod output;
 pub mod page;
+pub mod port;
 pub mod routes_text;
 pub mod sha256;
 pub mod shown;

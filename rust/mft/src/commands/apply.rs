@@ -8,12 +8,12 @@ use crate::figures::{bytes, counted, routes};
 use crate::input::{Input, Source};
 use crate::messages::{self, Message};
 use crate::output::Outcome;
+use crate::port;
 use crate::shown;
-use maftehon::{Prefix, Route, RouteList, Table, ROUTES_LAST};
+use maftehon::{ParseError, Prefix, RouteList, Table, ROUTES_LAST};
 use std::collections::BTreeMap;
 use std::ffi::OsStr;
 use std::fmt::Write;
-use std::net::Ipv4Addr;
 
 const PORT: Flag = Flag { long: "port", short: Some("p"), value: "PORT", kind: Kind::Plain, required: true };
 
@@ -56,7 +56,7 @@ Exit status: 0 written; 1 refused; 2 wrong usage, or a file that cannot be read 
 const END_OF_RIB_BYTES: usize = 23;
 
 fn run(arguments: &Arguments, input: &mut Input) -> Result<Outcome, Failure> {
-    let port = port(arguments.required(PORT.long))?;
+    let port = port_of(arguments.required(PORT.long))?;
     let (_, list) = input.routes(arguments.operand(0))?;
     let sources: Vec<Source> =
         arguments.operands_from(1).iter().map(|file| input.read(file)).collect::<Result<_, _>>()?;
@@ -79,14 +79,12 @@ fn run(arguments: &Arguments, input: &mut Input) -> Result<Outcome, Failure> {
     Outcome::written(target, file, &said, &about)
 }
 
-/// A number that is too large for any port is handed on as the largest, which the library refuses too.
-fn port(word: &OsStr) -> Result<u16, Failure> {
-    let text = word.to_str().filter(|text| !text.is_empty() && text.bytes().all(|byte| byte.is_ascii_digit()));
-    let text = text.ok_or_else(|| COMMAND.misused(&format!("--port {} is no number", shown::name(word))))?;
-    let port = text.parse().unwrap_or(u16::MAX);
-    // Whether it is a port, the library says of a route to it.
-    let route = Route::new(Ipv4Addr::UNSPECIFIED, 0, port).map_err(|refusal| explain::port(text, refusal))?;
-    Ok(route.port())
+fn port_of(word: &OsStr) -> Result<u16, Failure> {
+    let text = shown::name(word);
+    port::read(&text).map_err(|error| match error {
+        ParseError::Refused(refusal) => explain::port(&text, refusal),
+        _ => COMMAND.misused(&format!("--port {text} is no number")),
+    })
 }
 
 /// Applies a message, and says what it did.

@@ -22,7 +22,9 @@ pub fn file(source: &Source, refusal: Refusal) -> Failure {
         (Refusal::ShortFile, _) => short(source),
         (Refusal::WrongVersion, _) => version(source),
         (_, Some((before, route))) => of_route(source, refusal, before, route),
-        _ => size(source),
+        (Refusal::WrongSize(_), None) => size(source),
+        // Routes begin at every place that a file is refused at. Were it otherwise, the refusal's own text would do.
+        (_, None) => whole(source, refusal.to_string(), 0..0, "See what the rules say under Refusals.".into()),
     };
     explanation.failure(refusal)
 }
@@ -118,7 +120,7 @@ fn wrong_with(refusal: Refusal, before: Option<Written>, route: Written) -> (Str
             "Leave routes out, or join neighbours of one port.",
         ),
         // A refusal that no file meets today: its own text says it.
-        other => (format!("is refused: {other}"), "The rules say under Refusals what to do."),
+        other => (format!("is refused: {other}"), "See what the rules say under Refusals."),
     }
 }
 

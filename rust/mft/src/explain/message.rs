@@ -26,7 +26,7 @@ pub fn message(file: &str, message: &Message, refusal: Refusal) -> Failure {
         Refusal::BadMessage(_) => bad(&message.bytes, place),
         Refusal::LongPrefix(_) => long_prefix(&message.bytes, place),
         Refusal::NoRoom => no_room(),
-        other => (other.to_string(), None, "The rules say under Refusals what to do.".into()),
+        other => (other.to_string(), None, "See what the rules say under Refusals.".into()),
     };
     let details = marked.map(|marked| ("bytes".to_string(), around(&message.bytes, marked)));
     let subject = format!("{}: {}", file, message.place);

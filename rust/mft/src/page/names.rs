@@ -4,7 +4,8 @@ use super::CHARACTERS_LAST;
 use crate::failure::Failure;
 use crate::input::Source;
 use crate::lines::{self, Fault, Line, Word};
-use maftehon::{ParseError, Route};
+use crate::port;
+use maftehon::ParseError;
 use std::collections::BTreeMap;
 
 /// The name of each port that has one.
@@ -75,10 +76,8 @@ fn name_of(line: &Line) -> Result<Option<(u16, String)>, Fault> {
     Ok(Some((number, name)))
 }
 
-/// Whether a word is a port, the library says of a route to it.
 fn port_of(line: &Line, word: &Word) -> Result<u16, Fault> {
-    let route: Result<Route, ParseError> = format!("0.0.0.0/0 {}", word.text).parse();
-    route.map(Route::port).map_err(|error| {
+    port::read(word.text).map_err(|error| {
         let wrong = match error {
             ParseError::Refused(refusal) => refusal.to_string(),
             _ => "this is no port number".into(),

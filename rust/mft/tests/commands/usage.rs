@@ -42,7 +42,7 @@ fn without_a_command_the_usage_is_an_error() {
 
 #[test]
 fn a_wrong_command_line_names_the_word_that_is_wrong() {
-    let cases: [(&[&str], &str); 18] = [
+    let cases: [(&[&str], &str); 20] = [
         (&["nonsense"], "mft: nonsense is no command of this program\n"),
         (&["--nonsense"], "mft: --nonsense is no option of this program\n"),
         (&["help", "nonsense"], "mft: nonsense is no command of this program\n"),
@@ -59,6 +59,8 @@ fn a_wrong_command_line_names_the_word_that_is_wrong() {
         (&["apply", "a", "b", "-o", "c"], "mft: apply: -p PORT is missing\n"),
         (&["apply", "a", "b", "--port", "--output", "c"], "mft: apply: --port has no value after it: PORT\n"),
         (&["apply", "a", "b", "--port", "nine", "-o", "c"], "mft: apply: --port nine is no number\n"),
+        (&["apply", "a", "b", "--port", "09", "-o", "c"], "mft: apply: --port 09 is no number\n"),
+        (&["apply", "a", "b", "--port=", "-o", "c"], "mft: apply: --port  is no number\n"),
         (&["page", "a", "-o", "b", "--date", "2026-02-29"], "mft: page: --date 2026-02-29 is no date: that month has"),
         (&["page", "a", "-o", "b", "--title", " "], "mft: page: --title   is no text\n"),
     ];

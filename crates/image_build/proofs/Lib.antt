@@ -1,5 +1,4 @@
 -- Laws of this layer that belong to no one function.
-pub mod CountLoop
 pub mod SlotReturns
 pub mod LeafSlots
 pub mod NodeStep

@@ -3,7 +3,6 @@ use mathlib.Core.Path.{_≡_, sym, ap, ap₂, _∙_, subst}
 use mathlib.Core.List.{List, [], _∷_}
 use Prim.Native.Nat.{ℕ, _+_, _-_, _*_, _/_, _^_, _≤_}
 use native.Mathlib.Omega.{arith}
-use native.Mathlib.Nat.{mul-le-mul}
 use lib.ListN.{length}
 use lib.Seq.{length-sets}
 use Rattle.promise.specs.Over.{over}
@@ -20,11 +19,7 @@ use Rattle.image_stretch.specs.Memory.{pending}
 use Rattle.image_stretch.specs.Needs.{Queue}
 use Rattle.image_stretch.proofs.Trees.{stretches-image}
 use Rattle.image_stretch.proofs.Room.{sizes, queue-of, root-again, over-root}
-use Rattle.image_build.specs.Needs.{mostNodes, mostSlots, ImageRoom}
-
--- the ports are few
-pub leaves-few : (w count slots : ℕ) → count ≤ mostNodes w → slots ≤ mostSlots → count * (slots - 1) ≤ mostNodes w * (mostSlots - 1)
-leaves-few w count slots a b = let l : slots - 1 ≤ mostSlots - 1 = omega arith in mul-le-mul a l
+use Rattle.image_build.specs.Needs.{ImageRoom}
 
 module _ (w : ℕ) (list : List ℕ) (n s slots : ℕ) (nodes ports : List ℕ) (st : Strided w s) (r : ImageRoom w list n s slots nodes ports) where
   abbrev R : ℕ → Route

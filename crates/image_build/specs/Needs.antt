@@ -3,15 +3,11 @@ use mathlib.Core.Path.{_≡_}
 use mathlib.Core.List.{List}
 use Prim.Native.Nat.{ℕ, _+_, _-_, _*_, _^_, _≤_, _<_}
 use lib.ListN.{length}
-use Rattle.routes.specs.Bounds.{mostRoutes}
 use Rattle.routes.specs.Routes.{routeAt, ValidList}
 use Rattle.image_rules.specs.Node.{nodeSize}
 use Rattle.image_nodes.specs.Needs.{Stride}
 use Rattle.image_stretch.specs.Count.{nodesCount}
-
--- the root, and for each of the most routes of a list a node at each depth below it: what is counted fits a word
-abbrev pub mostNodes : ℕ → ℕ
-mostNodes w = 1 + mostRoutes * (w - 1)
+use Rattle.image_count.specs.Counted.{mostNodes}
 
 -- the slots of a node, at most so many
 abbrev pub mostSlots : ℕ

@@ -1,8 +1,8 @@
 // Building the image of a route list into lent memory, which is all the memory that it uses.
 ghost use mathlib.Core.Path.{_≡_};
 ghost use Rattle.image_build.specs.Build.{left, refusedBuild, doneBuild, buildImage};
-use count::count_nodes;
 use fill::write_image;
+use image_count::count_nodes;
 use image_nodes::NODE_SIZE;
 use image_nodes::is_stride;
 use image_nodes::slots_of;
@@ -11,7 +11,6 @@ use refusals::WRONG_STRIDE;
 use routes::ROUTE_SIZE;
 use routes::check_list;
 
-mod count;
 mod fill;
 
 // What a build answers: the refusal's number and place, both 0 where it is done, and the nodes and ports written.
@@ -58,7 +57,7 @@ pub fn build(stride: u32, list: &[u32], nodes: &mut [u32], ports: &mut [u16]) ->
         }
         let n = list.len() / ROUTE_SIZE;
         let slots = slots_of(stride);
-        let count = count_nodes(list, n, stride);
+        let count = count_nodes(list, stride);
         let leaves = count * (slots as usize - 1) + 1;
         if nodes.len() < count * NODE_SIZE {
             return Built::refused(NO_ROOM, 0);

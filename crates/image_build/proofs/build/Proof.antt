@@ -2,9 +2,8 @@ use mathlib.Core.Path.{sym, _∙_}
 use native.Mathlib.Omega.{arith}
 use denote.Ref.{now}
 use Rattle.image_rules.proofs.Strides.{strided}
-use Rattle.image_nodes.proofs.Slots.{stride-bounds, stride-of, slots-found, slots-pos}
-use Rattle.image_build.proofs.WholeImage.{leaves-few}
-use Rattle.image_build.proofs.Answers.{build-wrong-stride, build-refused, accepted-list, build-no-nodes, build-no-ports, build-done, room-of}
+use Rattle.image_nodes.proofs.Slots.{stride-of, slots-found, slots-pos}
+use Rattle.image_build.proofs.Answers.{leaves-few, build-wrong-stride, build-refused, build-no-nodes, build-no-ports, build-done, room-of}
 use borrow.Author.Needs.{needs}
 use Rattle.image_build.proofs.build.Statement.{statement}
 use Rattle.image_build.proofs.build.Tie as tie
@@ -28,12 +27,7 @@ slots-of-requires : tie.Need-slots-of-requires
 slots-of-requires c κs = search needs
 
 count-nodes-requires : tie.Need-count-nodes-requires
-count-nodes-requires c κs =
-    let a = c .before .before .before .before .before .before .before .before .before .args in
-    let t = sym (c .before .before .before .before .before .is-stride .ensures) ∙ c .before .before .before .before .if1 .taken in
-    let b = stride-bounds (a .stride) t in
-    let v = accepted-list 32 (a .stride) (now (a .list)) (now (a .nodes)) (now (a .ports)) t _ (c .before .before .before .check-list .ensures) (c .before .if2 .left) (λ i. omega (arith, c .before .before .before .before .before .before .before .before .shared-slice-known .given i)) in
-    (b .0, b .1, v .few)
+count-nodes-requires c κs = search needs
 
 cast-leaves : tie.Need-cast-leaves
 cast-leaves c = search needs
@@ -46,24 +40,26 @@ sub-leaves c =
 
 mul-leaves : tie.Need-mul-leaves
 mul-leaves c =
-    omega (arith, leaves-few 32 _ _ (c .count-nodes .ensures .1) (c .before .slots-of .ensures .1))
+    omega (arith, leaves-few 32 _ _ _ _ (c .count-nodes .ensures) (c .before .slots-of .ensures .1) .1)
 
 add-leaves : tie.Need-add-leaves
 add-leaves c =
-    omega (arith, leaves-few 32 _ _ (c .count-nodes .ensures .1) (c .before .slots-of .ensures .1))
+    omega (arith, leaves-few 32 _ _ _ _ (c .count-nodes .ensures) (c .before .slots-of .ensures .1) .1)
 
 mul-if3 : tie.Need-mul-if3
-mul-if3 c = search needs
+mul-if3 c =
+    omega (arith, leaves-few 32 _ _ _ _ (c .count-nodes .ensures) (c .before .slots-of .ensures .1) .0)
 
 refused-requires-2 : tie.Need-refused-requires-2
 refused-requires-2 c κs = search needs
 
 returns-2 : tie.Need-returns-2
 returns-2 c =
-    let a = c .before .before .before .before .before .before .before .before .before .before .before .before .args in
-    let t = sym (c .before .before .before .before .before .before .before .before .is-stride .ensures) ∙ c .before .before .before .before .before .before .before .if1 .taken in
-    build-no-nodes 32 (a .stride) (now (a .list)) (now (a .nodes)) (now (a .ports)) t _ (c .before .before .before .before .before .before .check-list .ensures) (c .before .before .before .before .if2 .left)
-    (strided (a .stride) t) (λ i. omega (arith, c .before .before .before .before .before .before .before .before .before .before .before .shared-slice-known .given i)) (c .before .before .count-nodes .result) (c .before .before .before .slots-of .result) (c .before .before .count-nodes .ensures .0) (slots-found (c .before .before .before .slots-of .ensures .0) (stride-of (a .stride) t))
+    let n = c .before .before in
+    let a = n .before .before .before .before .before .before .before .before .before .before .args in
+    let t = sym (n .before .before .before .before .before .before .is-stride .ensures) ∙ n .before .before .before .before .before .if1 .taken in
+    build-no-nodes 32 (a .stride) (now (a .list)) (now (a .nodes)) (now (a .ports)) t _ (n .before .before .before .before .check-list .ensures) (n .before .before .if2 .left) (strided (a .stride) t)
+    (λ i. omega (arith, n .before .before .before .before .before .before .before .before .before .shared-slice-known .given i)) _ _ (n .count-nodes .ensures) (slots-found (n .before .slots-of .ensures .0) (stride-of (a .stride) t))
     (c .before .if3 .taken) _ (c .refused2 .ensures)
 
 refused-requires-3 : tie.Need-refused-requires-3
@@ -71,25 +67,29 @@ refused-requires-3 c κs = search needs
 
 returns-3 : tie.Need-returns-3
 returns-3 c =
-    let a = c .before .before .before .before .before .before .before .before .before .before .before .before .before .args in
-    let t = sym (c .before .before .before .before .before .before .before .before .before .is-stride .ensures) ∙ c .before .before .before .before .before .before .before .before .if1 .taken in
-    build-no-ports 32 (a .stride) (now (a .list)) (now (a .nodes)) (now (a .ports)) t _ (c .before .before .before .before .before .before .before .check-list .ensures) (c .before .before .before .before .before .if2 .left)
-    (strided (a .stride) t) (λ i. omega (arith, c .before .before .before .before .before .before .before .before .before .before .before .before .shared-slice-known .given i)) (c .before .before .before .count-nodes .result) (c .before .before .before .before .slots-of .result) (c .before .before .before .count-nodes .ensures .0) (slots-found (c .before .before .before .before .slots-of .ensures .0) (stride-of (a .stride) t))
+    let n = c .before .before .before in
+    let a = n .before .before .before .before .before .before .before .before .before .before .args in
+    let t = sym (n .before .before .before .before .before .before .is-stride .ensures) ∙ n .before .before .before .before .before .if1 .taken in
+    build-no-ports 32 (a .stride) (now (a .list)) (now (a .nodes)) (now (a .ports)) t _ (n .before .before .before .before .check-list .ensures) (n .before .before .if2 .left) (strided (a .stride) t)
+    (λ i. omega (arith, n .before .before .before .before .before .before .before .before .before .shared-slice-known .given i)) _ _ (n .count-nodes .ensures) (slots-found (n .before .slots-of .ensures .0) (stride-of (a .stride) t))
     (c .before .if4 .taken) _ (c .refused3 .ensures)
 
 write-image-requires : tie.Need-write-image-requires
 write-image-requires c κs =
-    let a = c .before .before .before .before .before .before .before .before .before .before .before .before .before .before .args in
-    let t = sym (c .before .before .before .before .before .before .before .before .before .before .is-stride .ensures) ∙ c .before .before .before .before .before .before .before .before .before .if1 .taken in
-    let v = accepted-list 32 (a .stride) (now (a .list)) (now (a .nodes)) (now (a .ports)) t _ (c .before .before .before .before .before .before .before .before .check-list .ensures) (c .before .before .before .before .before .before .if2 .left) (λ i. omega (arith, c .before .before .before .before .before .before .before .before .before .before .before .before .before .shared-slice-known .given i)) in
-    room-of 32 (a .stride) (now (a .list)) (now (a .nodes)) (now (a .ports)) _ (c .before .before .before .before .count-nodes .result) (c .before .before .before .before .before .slots-of .result) (stride-of (a .stride) t) (slots-found (c .before .before .before .before .before .slots-of .ensures .0) (stride-of (a .stride) t)) (c .before .before .before .before .before .slots-of .ensures .1) v (c .before .before .before .before .count-nodes .ensures .0) (c .before .before .before .before .count-nodes .ensures .1) (omega arith) (c .before .before .before .if3 .left) (c .before .before .if4 .left)
+    let n = c .before .before .before .before in
+    let a = n .before .before .before .before .before .before .before .before .before .before .args in
+    let t = sym (n .before .before .before .before .before .before .is-stride .ensures) ∙ n .before .before .before .before .before .if1 .taken in
+    room-of 32 (a .stride) (now (a .list)) (now (a .nodes)) (now (a .ports)) t _ (n .before .before .before .before .check-list .ensures) (n .before .before .if2 .left) (strided (a .stride) t)
+    (λ i. omega (arith, n .before .before .before .before .before .before .before .before .before .shared-slice-known .given i)) _ _ (n .count-nodes .ensures) (slots-found (n .before .slots-of .ensures .0) (stride-of (a .stride) t))
+    (n .before .slots-of .ensures .1) (omega arith) (c .before .before .before .if3 .left) (c .before .before .if4 .left)
 
 cast-done : tie.Need-cast-done
-cast-done c = search needs
+cast-done c =
+    let n = c .before .before .before .before .before .before .before .before .before in omega (arith, leaves-few 32 _ _ _ _ (n .count-nodes .ensures) (n .before .slots-of .ensures .1) .0)
 
 cast-done-2 : tie.Need-cast-done-2
 cast-done-2 c =
-    omega (arith, leaves-few 32 _ _ (c .before .before .before .before .before .before .before .before .before .count-nodes .ensures .1) (c .before .before .before .before .before .before .before .before .before .before .slots-of .ensures .1))
+    let n = c .before .before .before .before .before .before .before .before .before in omega (arith, leaves-few 32 _ _ _ _ (n .count-nodes .ensures) (n .before .slots-of .ensures .1) .1)
 
 done-requires : tie.Need-done-requires
 done-requires c κs = search needs
@@ -102,10 +102,11 @@ same-length-2 c = search needs
 
 returns-4 : tie.Need-returns-4
 returns-4 c =
-    let a = c .before .before .before .before .before .before .before .before .before .before .before .before .before .before .before .before .before .before .before .before .args in
-    let t = sym (c .before .before .before .before .before .before .before .before .before .before .before .before .before .before .before .before .is-stride .ensures) ∙ c .before .before .before .before .before .before .before .before .before .before .before .before .before .before .before .if1 .taken in
-    build-done 32 (a .stride) (now (a .list)) (now (a .nodes)) (now (a .ports)) t _ (c .before .before .before .before .before .before .before .before .before .before .before .before .before .before .check-list .ensures) (c .before .before .before .before .before .before .before .before .before .before .before .before .if2 .left)
-    (strided (a .stride) t) (λ i. omega (arith, c .before .before .before .before .before .before .before .before .before .before .before .before .before .before .before .before .before .before .before .shared-slice-known .given i)) (c .before .before .before .before .before .before .before .before .before .before .count-nodes .result) (c .before .before .before .before .before .before .before .before .before .before .before .slots-of .result) (c .before .before .before .before .before .before .before .before .before .before .count-nodes .ensures .0) (slots-found (c .before .before .before .before .before .before .before .before .before .before .before .slots-of .ensures .0) (stride-of (a .stride) t))
+    let n = c .before .before .before .before .before .before .before .before .before .before in
+    let a = n .before .before .before .before .before .before .before .before .before .before .args in
+    let t = sym (n .before .before .before .before .before .before .is-stride .ensures) ∙ n .before .before .before .before .before .if1 .taken in
+    build-done 32 (a .stride) (now (a .list)) (now (a .nodes)) (now (a .ports)) t _ (n .before .before .before .before .check-list .ensures) (n .before .before .if2 .left) (strided (a .stride) t)
+    (λ i. omega (arith, n .before .before .before .before .before .before .before .before .before .shared-slice-known .given i)) _ _ (n .count-nodes .ensures) (slots-found (n .before .slots-of .ensures .0) (stride-of (a .stride) t))
     (c .before .before .before .before .before .before .before .before .before .if3 .left) (c .before .before .before .before .before .before .before .before .if4 .left) (c .before .before .before .before .before .write-image .ensures .0) (c .before .before .before .before .before .write-image .ensures .1) _ (c .done .ensures)
 
 refused-requires-4 : tie.Need-refused-requires-4

@@ -1,0 +1,2 @@
+-- How many nodes the image of a list has.
+pub mod Counted

@@ -1,10 +1,10 @@
 -- Some slots at once that are leaves with one port: their ports, their bits. Assumes nothing.
-use mathlib.Core.Path.{_≡_, refl, sym, ap, _∙_, subst}
+use mathlib.Core.Path.{_≡_, refl, sym, ap, _∙_}
 use mathlib.Core.Bool.{Bool, true, false, cond}
 use mathlib.Core.List.{List, _∷_, _++_}
-use Prim.Native.Nat.{ℕ, zero, suc, _+_, _-_, _*_, _/_, _^_, _≤_, _<_}
+use Prim.Native.Nat.{ℕ, zero, suc, _+_, _-_, _*_, _^_, _≤_, _<_}
 use native.Mathlib.Omega.{arith}
-use native.Mathlib.Nat.{le-trans, mul-le-mul, mul-le-mul-right, div-mul-le-self}
+use native.Mathlib.Nat.{mul-le-mul}
 use lib.Dec.{eqb}
 use lib.ListN.{length, set, replicate, length-replicate}
 use lib.Pow.{pow-mono, pow-pos}
@@ -12,31 +12,15 @@ use lib.Seq.{sets, length-sets}
 use borrow.Author.Tests.{eq-eqb, ne-eqb, eqb-true}
 use Rattle.lists.specs.Flat.{flat}
 use Rattle.lists.specs.Numbered.{listOf}
-use Rattle.bits.specs.Prefix.{span}
 use Rattle.entries.specs.Entries.{filled}
 use Rattle.entries.proofs.Filled.{stretch-none, filled-within}
-use Rattle.routes.specs.declared.Route.{Route}
 use Rattle.image_rules.specs.Breadth.{Slot, leaf, nonLeaf, slotPorts}
 use Rattle.image_nodes.specs.declared.Leaf.{Leaf}
 use Rattle.image_stretch.specs.declared.Stretch.{Stretch}
 use Rattle.image_stretch.specs.declared.Filled.{Filled}
 use Rattle.image_stretch.specs.Memory.{filledLeaves, owed, keptAfter}
-use Rattle.image_stretch.specs.Needs.{Clear}
 use Rattle.image_stretch.proofs.SlotLoop.{SlotsDone, sets-append}
 use Rattle.image_build.specs.Needs.{mostSlots}
-
--- whole slots of n addresses below a distance d
-slots-le : (r n d : ℕ) → r ≤ d / n → r * n ≤ d
-slots-le r n d h = le-trans (mul-le-mul-right n h) (div-mul-le-self d n)
-
--- the slots before the one in which the next route lies
-pub clear-slots : (w : ℕ) (R : ℕ → Route) (m : ℕ) (x : Stretch) (at address l r : ℕ) (v : Route) → v ≡ R at → r ≤ m
-    → r ≤ (v .value - address) / span w l → Clear w R m x at at address l r
-clear-slots w R m x at address l r v is h k = record {
-  few = h;
-  none = λ i. refl;
-  later = λ i. subst (λ (u : Route). r * span w l ≤ u .value - address) is (slots-le r (span w l) (v .value - address) k);
-}
 
 -- a bitmap with ones after it, in a word
 pub ones-fit : (b k : ℕ) → b < 2 ^ mostSlots → k ≤ mostSlots → (1 ≤ (b + 1) * 2 ^ k) × ((b + 1) * 2 ^ k ≤ 2 ^ 32)

@@ -1,7 +1,7 @@
 -- A slot of a node, from what the code finds. Assumes nothing.
 use mathlib.Core.Path.{_≡_, sym, ap, _∙_, subst}
 use mathlib.Core.Bool.{Bool, true, false, cond}
-use Prim.Native.Nat.{ℕ, _+_, _*_, _<_}
+use Prim.Native.Nat.{ℕ, _+_, _*_}
 use native.Mathlib.Nat.{add-zero}
 use Rattle.routes.specs.declared.Route.{Route}
 use Rattle.image_rules.specs.Breadth.{Slot, leaf, nonLeaf}
@@ -9,11 +9,10 @@ use Rattle.image_nodes.specs.declared.Node.{Node}
 use Rattle.image_nodes.specs.declared.Leaf.{Leaf}
 use Rattle.image_stretch.specs.declared.Stretch.{Stretch}
 use Rattle.image_stretch.specs.declared.Filled.{Filled}
-use Rattle.image_stretch.specs.Stretches.{slotStretchAt, goesOn, leafPort, slotIn, addressOf, slotAddress, slotFirst, stretchAt}
+use Rattle.image_stretch.specs.Stretches.{goesOn, leafPort, slotIn, slotFirst, stretchAt}
 use Rattle.image_stretch.specs.Memory.{filledBy}
 use Rattle.image_stretch.specs.Needs.{Fits}
 use Rattle.image_stretch.proofs.Bounds.{slot-fits, slot-depth}
-use Rattle.image_stretch.proofs.Resuming.{Resumed, resumed-is}
 
 -- by the test of the last route
 pub slot-goes : (R : ℕ → Route) (y : Stretch) (t : Bool) → t ≡ goesOn R y → t ≡ true → slotIn R y ≡ nonLeaf y
@@ -33,13 +32,6 @@ pub filled-ends : (o : Slot Stretch) (p : ℕ) (st : Filled) (next : Leaf) → o
 filled-ends o p st next e n =
     (λ j. record { bitmap = st .bitmap * 2 + 1; node = record { 0 = sym (add-zero (st .node .0)) j }; leaf = record { 0 = n j } })
     ∙ ap (λ (u : Slot Stretch). filledBy u st) (sym e)
-
--- slot j, where the search resumed
-pub slot-found : (w : ℕ) (R : ℕ → Route) (s m : ℕ) (x y : Stretch) (address j short at : ℕ) → Fits x → Resumed w R s m x j short at → j < m
-    → address ≡ addressOf w R x → y ≡ slotStretchAt w R x short at (slotAddress w address (x .depth + s) j) (x .depth + s) → y ≡ stretchAt w R s x j
-slot-found w R s m x y address j short at f r h a c =
-    c ∙ ap (λ (k : ℕ). slotStretchAt w R x short at (slotAddress w k (x .depth + s) j) (x .depth + s)) a
-    ∙ resumed-is w R s m x f j short at r h
 
 -- the slot's stretch fits a node's words, as its node's does
 pub slot-needs : (w : ℕ) (R : ℕ → Route) (s : ℕ) (x y : Stretch) (j : ℕ) → y ≡ stretchAt w R s x j → Fits x → Fits y × (y .depth ≡ x .depth + s)

@@ -11,9 +11,9 @@ ghost use Rattle.image_rules.specs.Node.{nodeWords, offset, nodeStart, storeNod
 ghost use Rattle.image_rules.specs.Breadth.{slotChildren, slotPorts, bitmap, children, leafPorts, levels, treeWords, treePorts};
 ghost use Rattle.image_rules.specs.Image.{imageNodes, imagePorts, routesOf};
 ghost use Rattle.image_nodes.specs.Needs.{Lent};
-ghost use Rattle.image_stretch.specs.Stretches.{halfWord, shortAfter, slotStretchAt, slotIn, addressOf, slotAddress, stretchSlots, rootOf};
+ghost use Rattle.image_stretch.specs.Stretches.{halfWord, slotIn, stretchSlots, rootOf};
 ghost use Rattle.image_stretch.specs.Memory.{inHalves, pending, pendingAt, free, filled, filledBy, filledLeaves, owed, keptAfter, buildNode};
-ghost use Rattle.image_stretch.specs.Needs.{Fits, Clear, Buildable, Queue};
+ghost use Rattle.image_stretch.specs.Needs.{Fits, Buildable, Queue};
 ghost use Rattle.image_build.specs.Needs.{mostSlots, ImageRoom};
 use entries::fill;
 use image_nodes::Distance;
@@ -22,15 +22,16 @@ use image_nodes::Node;
 use image_nodes::NodeWords;
 use image_nodes::node_at;
 use image_nodes::store_node;
+use image_search::address_of;
+use image_search::find_slot;
+use image_search::goes_on;
+use image_search::leaf_port;
+use image_search::search_after;
+use image_search::search_from;
 use image_stretch::Filled;
 use image_stretch::Free;
 use image_stretch::HALF_WORD;
 use image_stretch::Stretch;
-use image_stretch::search::goes_on;
-use image_stretch::search::leaf_port;
-use image_stretch::search::slot_stretch;
-use prefix::Prefix;
-use routes::route_at;
 
 // Two numbers in one word.
 fn halves(high: u32, low: u32) -> u32
@@ -84,34 +85,6 @@ fn put_node(nodes: &mut [u32], at: Node, next: Node, f: Filled) -> Free
     Free { node, leaf }
 }
 
-// The first address of a node: that of any route in it. Only the root may have none.
-fn address_of(list: &[u32], x: Stretch) -> u32
-    ensures { λ r. ⌜ r ≡ addressOf 32 (routeAt (now (list .entry))) x ⌝ }
-{
-    if x.hi <= x.lo {
-        return 0;
-    }
-    Prefix::new(route_at(list, x.lo).value, x.depth).first()
-}
-
-// The stretch of slot j of the node that begins at an address: the slot's bits are its prefix.
-fn find_slot(
-    list: &[u32],
-    x: Stretch,
-    short: usize,
-    route: usize,
-    address: u32,
-    depth: u32,
-    j: u32,
-) -> Stretch
-    requires { ⌜ (depth ≤ 32) × (j ≤ mostSlots) ⌝ }
-    ensures { λ r. ⌜ r ≡ slotStretchAt 32 (routeAt (now (list .entry))) x short route (slotAddress 32 address depth j) depth ⌝ }
-{
-    let span = 1u64 << (32 - depth);
-    let value = (address as u64 + j as u64 * span) % 4294967296;
-    slot_stretch(list, x, short, route, Prefix::new(value as u32, depth))
-}
-
 // One slot: a leaf's port, after those that are still owed; or a node still to do.
 fn fill_slot(
     list: &[u32],
@@ -146,64 +119,6 @@ fn fill_slot(
         bitmap: st.bitmap * 2 + 1,
         node,
         leaf: leaf.after(1),
-    }
-}
-
-// Where the search for a slot's stretch resumes: from `short` on a route may match the slot, the routes from `route` on may lie in it,
-// and the slots before `clear` are leaves with the node's port.
-struct Search {
-    short: usize,
-    route: usize,
-    clear: u32,
-}
-
-// The slots before this one are leaves with the node's port, where no route before the next one is shorter than the slots: the next
-// route lies no earlier. It is the number of slots if the next route lies past them.
-fn clear_to(list: &[u32], x: Stretch, route: usize, address: u32, depth: u32, slots: u32) -> u32
-    requires { ⌜ depth ≤ 32 ⌝ }
-    ensures { λ r. ⌜ Clear 32 (routeAt (now (list .entry))) slots x route route address depth r ⌝ }
-{
-    if x.hi <= route {
-        return slots;
-    }
-    let value = route_at(list, route).value;
-    if value < address {
-        return 0;
-    }
-    let slot = ((value - address) as u64) >> (32 - depth);
-    if slots as u64 <= slot {
-        return slots;
-    }
-    slot as u32
-}
-
-// The search after the slot with the stretch y. The routes in a slot match no later one, and what the search passes on the way to a
-// slot is shorter than the slots, and may match all that follow.
-fn search_after(
-    list: &[u32],
-    x: Stretch,
-    short: usize,
-    y: Stretch,
-    address: u32,
-    depth: u32,
-    slots: u32,
-) -> Search
-    requires { ⌜ depth ≤ 32 ⌝ }
-    ensures { λ r. ⌜ (r .short ≡ shortAfter short y) × (r .route ≡ y .hi)
-        × Clear 32 (routeAt (now (list .entry))) slots x (r .short) (r .route) address depth (r .clear) ⌝ }
-{
-    let route = y.hi;
-    if y.lo == short {
-        return Search {
-            short: route,
-            route,
-            clear: clear_to(list, x, route, address, depth, slots),
-        };
-    }
-    Search {
-        short,
-        route,
-        clear: 0,
     }
 }
 
@@ -257,11 +172,7 @@ fn fill_node(
     let node = at.node;
     let leaf = at.leaf;
     let mut j = 0;
-    let mut search = Search {
-        short: x.lo,
-        route: x.lo,
-        clear: clear_to(list, x, x.lo, address, depth, slots),
-    };
+    let mut search = search_from(list, x, x.lo, address, depth, slots);
     let mut kept = leaf.0;
     let mut st = Filled {
         bitmap: 0,
@@ -274,7 +185,7 @@ fn fill_node(
             j = search.clear;
             continue;
         }
-        let y = find_slot(list, x, search.short, search.route, address, depth, j);
+        let y = find_slot(list, x, search, address, depth, j);
         let before = st.leaf;
         st = fill_slot(list, y, nodes, ports, kept, x.best, st);
         let after = st.leaf;

@@ -1,6 +1,5 @@
 -- Laws of the stretches and of the builder's memory.
 pub mod FirstAndLast
-pub mod SearchTests
 pub mod Bounds
 pub mod Places
 pub mod Alikes
@@ -13,4 +12,3 @@ pub mod QueueStep
 pub mod Pending
 pub mod QueueLoop
 pub mod Room
-pub mod Unique

@@ -10,7 +10,6 @@ use Rattle.routes.specs.Scan.{routeMatches}
 use Rattle.routes.specs.declared.Route.{Route}
 use Rattle.image_rules.specs.Breadth.{Slot, leaf, nonLeaf, levels}
 use Rattle.image_stretch.specs.declared.Stretch.{Stretch}
-use Rattle.image_stretch.specs.declared.search.Sought.{Sought}
 
 abbrev pub stretch : ℕ → ℕ → ℕ → ℕ → Stretch
 stretch lo hi depth best = record { lo = lo; hi = hi; depth = depth; best = best }
@@ -52,16 +51,6 @@ fromOf R x v l = fromAt R x (x .lo) v l
 
 abbrev pub toOf : ℕ → (ℕ → Route) → Stretch → ℕ → ℕ → ℕ
 toOf w R x v l = toAt w R x (x .lo) v l
-
-abbrev pub sought : ℕ → ℕ → Sought
-sought route port = record { route = route; port = port }
-
--- one pass from lo on: where the routes that stand before v/l end, and the port of the last of them that matches v, else the one given
-abbrev pub seekFrom : ℕ → (ℕ → Route) → ℕ → ℕ → ℕ → ℕ → ℕ → Sought
-seekFrom w R v l port lo hi = record {
-  route = past (standsBefore R v l) (hi - lo) lo;
-  port = lastFrom w R v port lo (past (standsBefore R v l) (hi - lo) lo - lo);
-}
 
 -- the port that the slot inherits: from the routes of short..at, before which none of the node's matches it, and from those that the
 -- search passes

@@ -1,7 +1,6 @@
 -- The search on its way through the slots of a node finds the stretch of each. Assumes nothing.
 use mathlib.Core.Path.{_≡_, sym, ap, _∙_, subst}
 use Prim.Native.Nat.{ℕ, _+_, _≤_, _<_}
-use native.Mathlib.Omega.{arith}
 use Rattle.routes.specs.declared.Route.{Route}
 use Rattle.image_rules.specs.Breadth.{leaf}
 use Rattle.image_stretch.specs.declared.Stretch.{Stretch}

@@ -1,6 +1,6 @@
 use mathlib.Core.Path.{_≡_}
 use denote.Ref.{now}
-use Prim.Native.Nat.{_+_, _-_, _*_, _/_, _≤_}
+use Prim.Native.Nat.{_+_, _-_, _/_, _≤_}
 use native.Mathlib.Omega.{arith}
 use native.Mathlib.Nat.{div-le-self}
 use Rattle.routes.specs.Routes.{routeAt}

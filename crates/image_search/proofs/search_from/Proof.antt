@@ -1,6 +1,3 @@
-use mathlib.Core.Path.{ap}
-use Prim.Native.Nat.{ℕ}
-use Rattle.image_search.specs.declared.Search.{Search}
 use borrow.Author.Needs.{needs}
 use Rattle.image_search.proofs.search_from.Statement.{statement}
 use Rattle.image_search.proofs.search_from.Tie as tie

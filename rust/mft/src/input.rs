@@ -13,7 +13,7 @@ pub const STANDARD: &str = "-";
 
 /// The most bytes that are read of a file. The largest route file has 28,677, so that what is longer is something else,
 /// or has no end.
-const BYTES_LAST: u64 = 64 << 20;
+const BYTES_LAST: u64 = 16 << 20;
 
 /// What a file holds, and what it is called.
 pub struct Source {
@@ -38,7 +38,7 @@ impl<'a> Input<'a> {
     ///
     /// # Errors
     ///
-    /// Where it cannot be read, or has over 64 MiB.
+    /// Where it cannot be read, or has over 16 MiB.
     pub fn read(&mut self, file: &OsStr) -> Result<Source, Failure> {
         let name = called(file);
         let bytes = if file == STANDARD { all_of(&mut self.stdin) } else { File::open(file).and_then(all_of) };
@@ -46,7 +46,7 @@ impl<'a> Input<'a> {
             Ok(Some(bytes)) => Ok(Source { name, bytes }),
             Ok(None) => {
                 let advice = "See that it is the right file: the largest route file has 28,677 bytes.";
-                Err(Failure::file(format!("{name}: has more than 64 MiB, and is not read\n  {advice}")))
+                Err(Failure::file(format!("{name}: has more than 16 MiB, and is not read\n  {advice}")))
             }
             Err(error) => {
                 let advice = "See that the name is right, and that you may read the file.";

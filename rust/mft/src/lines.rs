@@ -95,19 +95,51 @@ impl Fault {
     }
 }
 
-/// All that is wrong with a text, in the order of its lines.
-pub fn at_fault(source: &Source, lines: &[Line], mut faults: Vec<Fault>) -> Failure {
-    faults.sort_by_key(|fault| fault.line);
-    let mut text = String::new();
-    for fault in faults.iter().take(FAULTS_SHOWN) {
-        let before = if text.is_empty() { "" } else { "mft: " };
-        let _ = write!(text, "{before}{}: {}", source.name, shown_fault(lines, fault));
+/// What is wrong with the lines of a text: the first faults, in the order of the lines, and how many there are besides.
+#[derive(Clone, PartialEq, Eq, Debug, Default)]
+pub struct Faults {
+    first: Vec<Fault>,
+    besides: u64,
+}
+
+impl Faults {
+    /// One fault more, of any line.
+    pub fn add(&mut self, fault: Fault) {
+        let place = self.first.partition_point(|other| other.line <= fault.line);
+        self.first.insert(place, fault);
+        if self.first.len() > FAULTS_SHOWN {
+            self.first.pop();
+            self.besides += 1;
+        }
     }
-    if faults.len() > FAULTS_SHOWN {
-        let more = counted((faults.len() - FAULTS_SHOWN) as u64, "line is", "lines are");
-        let _ = writeln!(text, "mft: {}: {more} at fault besides.", source.name);
+
+    /// Whether nothing is wrong.
+    pub fn is_empty(&self) -> bool {
+        self.first.is_empty()
     }
-    Failure::refused(text)
+
+    /// The failure that shows them.
+    pub fn failure(&self, source: &Source, lines: &[Line]) -> Failure {
+        let faults = self.first.iter().map(|fault| format!("{}: {}", source.name, shown_fault(lines, fault)));
+        let mut text = faults.collect::<Vec<_>>().join("mft: ");
+        if self.besides > 0 {
+            let more = counted(self.besides, "line is", "lines are");
+            let _ = writeln!(text, "mft: {}: {more} at fault besides.", source.name);
+        }
+        Failure::refused(text)
+    }
+}
+
+/// What the lines say, of those that say something, and what is wrong with the others.
+pub fn read<'a, T>(lines: &'a [Line], say: impl Fn(&'a Line) -> Result<Option<T>, Fault>) -> (Vec<T>, Faults) {
+    let (mut said, mut faults) = (Vec::new(), Faults::default());
+    for line in lines {
+        match say(line) {
+            Ok(something) => said.extend(something),
+            Err(fault) => faults.add(fault),
+        }
+    }
+    (said, faults)
 }
 
 /// The line at fault with a mark under the part, and the line beside it, if any, above.

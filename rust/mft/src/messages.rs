@@ -67,17 +67,11 @@ fn stated_length(rest: &[u8]) -> Option<usize> {
 
 fn in_hexadecimal(source: &Source) -> Result<Vec<Message>, Failure> {
     let lines = lines::of(source)?;
-    let (mut messages, mut faults) = (Vec::new(), Vec::new());
-    for line in &lines {
-        match message_of(line) {
-            Ok(message) => messages.extend(message),
-            Err(fault) => faults.push(fault),
-        }
-    }
+    let (messages, faults) = lines::read(&lines, message_of);
     if faults.is_empty() {
         Ok(messages)
     } else {
-        Err(lines::at_fault(source, &lines, faults))
+        Err(faults.failure(source, &lines))
     }
 }
 

@@ -4,9 +4,10 @@ use crate::columns::{aligned, Side};
 use crate::failure::Failure;
 use crate::figures::grouped;
 use crate::input::Source;
-use crate::lines::{self, Fault, Line, Word};
+use crate::lines::{self, Fault, Faults, Line, Word};
 use maftehon::{ParseError, Prefix, Refusal, Route, RouteList, ROUTES_LAST};
 use std::net::Ipv4Addr;
+use std::ops::Range;
 
 /// A route and the line that says it.
 struct Said<'a> {
@@ -34,45 +35,31 @@ pub fn read(source: &Source) -> Result<RouteList, Failure> {
         )));
     }
     let lines = lines::of(source)?;
-    let (mut said, mut faults) = (Vec::new(), Vec::new());
-    for line in &lines {
-        match route_of(line) {
-            Ok(None) => {}
-            Ok(Some(route)) => said.push(Said { route, line }),
-            Err(fault) => faults.push(fault),
-        }
-    }
-    let list = list_of(said).unwrap_or_else(|more| {
-        faults.extend(more);
-        RouteList::default()
-    });
-    if faults.is_empty() {
-        Ok(list)
-    } else {
-        Err(lines::at_fault(source, &lines, faults))
+    let (said, mut faults) = lines::read(&lines, said_by);
+    match list_of(said, &mut faults) {
+        Some(list) if faults.is_empty() => Ok(list),
+        _ => Err(faults.failure(source, &lines)),
     }
 }
 
-/// The routes as a list, in list order. The library checks it, and where it refuses a route, the list is tried again
-/// without that one, so that all of them are told.
-fn list_of(mut said: Vec<Said>) -> Result<RouteList, Vec<Fault>> {
+/// The routes as a list, in list order; none where the library refuses it. Where it refuses one route, the list is tried
+/// again without that one, so that all of them are told.
+fn list_of(mut said: Vec<Said>, faults: &mut Faults) -> Option<RouteList> {
     let first_too_many = said.get(ROUTES_LAST).map(|said| said.line);
     said.sort_by_key(|said| said.route.prefix());
-    let mut faults = Vec::new();
     loop {
         let routes: Vec<Route> = said.iter().map(|said| said.route).collect();
         match RouteList::from_routes(&routes) {
-            Ok(list) if faults.is_empty() => return Ok(list),
-            Ok(_) => return Err(faults),
+            Ok(list) => return Some(list),
             Err(Refusal::TooManyRoutes(_)) => {
-                faults.extend(first_too_many.map(too_many));
-                return Err(faults);
+                faults.add(too_many(first_too_many?));
+                return None;
             }
             // Each is a valid route, so that what is refused is its place: the prefix is that of the route before it.
             Err(refusal) => {
                 let again = said.remove(refusal.place() as usize);
                 let first = said[(refusal.place() as usize).saturating_sub(1)].line;
-                faults.push(twice(&again, first, refusal));
+                faults.add(twice(&again, first, refusal));
             }
         }
     }
@@ -92,7 +79,7 @@ fn twice(again: &Said, first: &Line, refusal: Refusal) -> Fault {
 }
 
 /// All of a line before its comment, without the spaces around it.
-fn whole(line: &Line) -> std::ops::Range<usize> {
+fn whole(line: &Line) -> Range<usize> {
     match &line.words()[..] {
         [first, .., last] => first.at.start..last.at.end,
         [only] => only.at.clone(),
@@ -101,20 +88,22 @@ fn whole(line: &Line) -> std::ops::Range<usize> {
 }
 
 /// The route of a line; none where there is only a comment, or nothing.
-fn route_of(line: &Line) -> Result<Option<Route>, Fault> {
+fn said_by(line: &Line) -> Result<Option<Said<'_>>, Fault> {
     if let Some(space) = line.content().char_indices().find(|(_, c)| c.is_whitespace() && !c.is_ascii_whitespace()) {
         return Err(odd_space(line, space));
     }
-    match &line.words()[..] {
-        [] => Ok(None),
-        [prefix] => route_of_words(line, prefix, None).map(Some),
-        [prefix, port] => route_of_words(line, prefix, Some(port)).map(Some),
+    let route = match &line.words()[..] {
+        [] => return Ok(None),
+        [prefix] => route_of(line, prefix, None)?,
+        [prefix, port] => route_of(line, prefix, Some(port))?,
         [prefix, port, extra, ..] => {
-            route_of_words(line, prefix, Some(port))?;
+            route_of(line, prefix, Some(port))?;
             let at = extra.at.start..whole(line).end;
-            Err(line.fault(at, "something follows the port", "Put a # before it if it is a comment, or take it out."))
+            let advice = "Put a # before it if it is a comment, or take it out.";
+            return Err(line.fault(at, "something follows the port", advice));
         }
-    }
+    };
+    Ok(Some(Said { route, line }))
 }
 
 /// Pasted text may have spaces that look like others and part no words.
@@ -124,7 +113,7 @@ fn odd_space(line: &Line, (at, character): (usize, char)) -> Fault {
 }
 
 /// The library reads the route; the words are looked at again only to mark the part that it has refused.
-fn route_of_words(line: &Line, prefix: &Word, port: Option<&Word>) -> Result<Route, Fault> {
+fn route_of(line: &Line, prefix: &Word, port: Option<&Word>) -> Result<Route, Fault> {
     let text = format!("{} {}", prefix.text, port.map_or("", |port| port.text));
     text.parse().map_err(|error| {
         let at = part_at_fault(error, prefix, port);
@@ -132,7 +121,7 @@ fn route_of_words(line: &Line, prefix: &Word, port: Option<&Word>) -> Result<Rou
     })
 }
 
-fn part_at_fault(error: ParseError, prefix: &Word, port: Option<&Word>) -> std::ops::Range<usize> {
+fn part_at_fault(error: ParseError, prefix: &Word, port: Option<&Word>) -> Range<usize> {
     let slash = prefix.text.find('/').map_or(prefix.at.end, |slash| prefix.at.start + slash);
     let address = prefix.at.start..slash;
     let length = (slash + 1).min(prefix.at.end)..prefix.at.end;

@@ -6,6 +6,7 @@ use crate::input::Source;
 use crate::lines::{self, Fault, Line, Word};
 use crate::port;
 use maftehon::ParseError;
+use std::collections::btree_map::Entry;
 use std::collections::BTreeMap;
 
 /// The name of each port that has one.
@@ -20,22 +21,18 @@ impl Names {
     /// The lines that name no port, and those that name one again.
     pub fn read(source: &Source) -> Result<Names, Failure> {
         let lines = lines::of(source)?;
-        let mut faults = Vec::new();
-        let mut named: BTreeMap<u16, (&Line, String)> = BTreeMap::new();
-        for line in &lines {
-            match name_of(line) {
-                Ok(None) => {}
-                Ok(Some((port, name))) => match named.get(&port) {
-                    Some((first, _)) => faults.push(twice(line, first, port)),
-                    None => drop(named.insert(port, (line, name))),
-                },
-                Err(fault) => faults.push(fault),
+        let (said, mut faults) = lines::read(&lines, said_by);
+        let mut named: BTreeMap<u16, Said> = BTreeMap::new();
+        for said in said {
+            match named.entry(said.port) {
+                Entry::Vacant(place) => drop(place.insert(said)),
+                Entry::Occupied(first) => faults.add(twice(&said, first.get().line)),
             }
         }
         if faults.is_empty() {
-            Ok(Names(named.into_iter().map(|(port, (_, name))| (port, name)).collect()))
+            Ok(Names(named.into_iter().map(|(port, said)| (port, said.name)).collect()))
         } else {
-            Err(lines::at_fault(source, &lines, faults))
+            Err(faults.failure(source, &lines))
         }
     }
 
@@ -50,13 +47,20 @@ impl Names {
     }
 }
 
+/// A name, and the line that says it.
+struct Said<'a> {
+    port: u16,
+    name: String,
+    line: &'a Line,
+}
+
 /// The port and the name of a line; none where there is only a comment, or nothing.
-fn name_of(line: &Line) -> Result<Option<(u16, String)>, Fault> {
+fn said_by(line: &Line) -> Result<Option<Said<'_>>, Fault> {
     let words = line.words();
-    let Some((port, name)) = words.split_first() else { return Ok(None) };
-    let number = port_of(line, port)?;
+    let Some((word, name)) = words.split_first() else { return Ok(None) };
+    let port = port_of(line, word)?;
     let [first, ..] = name else {
-        let at = port.at.end + 1..port.at.end + 1;
+        let at = word.at.end + 1..word.at.end + 1;
         return Err(line.fault(
             at,
             "there is no name after the port",
@@ -73,7 +77,7 @@ fn name_of(line: &Line) -> Result<Option<(u16, String)>, Fault> {
         let wrong = format!("the name has more than {CHARACTERS_LAST} characters");
         return Err(line.fault(at, wrong, "Write a shorter name."));
     }
-    Ok(Some((number, name)))
+    Ok(Some(Said { port, name, line }))
 }
 
 fn port_of(line: &Line, word: &Word) -> Result<u16, Fault> {
@@ -86,8 +90,8 @@ fn port_of(line: &Line, word: &Word) -> Result<u16, Fault> {
     })
 }
 
-fn twice(line: &Line, first: &Line, port: u16) -> Fault {
-    let at = line.words().first().map_or(0..0, |word| word.at.clone());
-    let wrong = format!("port {port} has a name in line {} already", first.number);
-    line.fault(at, wrong, "Keep one of the two lines.").beside(first)
+fn twice(said: &Said, first: &Line) -> Fault {
+    let at = said.line.words().first().map_or(0..0, |word| word.at.clone());
+    let wrong = format!("port {} has a name in line {} already", said.port, first.number);
+    said.line.fault(at, wrong, "Keep one of the two lines.").beside(first)
 }

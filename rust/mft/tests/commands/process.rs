@@ -97,7 +97,7 @@ fn a_file_without_end_is_not_read() {
     let endless = File::open("/dev/zero").expect("Linux has it");
     let output = program(&["check", "-"]).stdin(endless).output().expect("the program ends");
     assert_eq!(output.status.code(), Some(2));
-    assert!(String::from_utf8_lossy(&output.stderr).starts_with("mft: standard input: has more than 64 MiB"));
+    assert!(String::from_utf8_lossy(&output.stderr).starts_with("mft: standard input: has more than 16 MiB"));
 }
 
 #[test]

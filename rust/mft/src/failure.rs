@@ -33,9 +33,8 @@ impl Failure {
 
     /// The same, with a line more.
     #[must_use]
-    pub fn with_line(mut self, line: &str) -> Failure {
-        self.text = format!("{}\n  {line}", self.text.trim_end());
-        self
+    pub fn with_line(&self, line: &str) -> Failure {
+        Failure { status: self.status, text: format!("{}\n  {line}", self.text.trim_end()) }
     }
 
     /// The exit status, 1 or 2.

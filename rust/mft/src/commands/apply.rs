@@ -60,22 +60,20 @@ fn run(arguments: &Arguments, input: &mut Input) -> Result<Outcome, Failure> {
     let (_, list) = input.routes(arguments.operand(0))?;
     let sources: Vec<Source> =
         arguments.operands_from(1).iter().map(|file| input.read(file)).collect::<Result<_, _>>()?;
-    let mut table = Table::build(&list, ROUTES_LAST).expect("no list has more routes than the largest table");
-    let (mut said, mut count) = (String::new(), 0);
+    let mut applied = Applied::to(list);
+    let mut said = String::new();
     for source in &sources {
         let messages = messages::of(source)?;
         if messages.is_empty() {
             let _ = writeln!(said, "{}: no message in it", source.name);
         }
         for message in &messages {
-            said += &apply(&mut table, source, message, port).map_err(|failure| nothing_written(failure, count))?;
-            count += 1;
+            said += &applied.apply(source, message, port)?;
         }
     }
-    let (held, target) = (table.save(), arguments.required(OUTPUT.long));
-    let file = held.write();
-    let after = counted(count, "message", "messages");
-    let about = format!("{} in {}, after {after}", routes(held.len()), bytes(file.len()));
+    let (file, target) = (applied.held.write(), arguments.required(OUTPUT.long));
+    let after = counted(applied.count, "message", "messages");
+    let about = format!("{} in {}, after {after}", routes(applied.held.len()), bytes(file.len()));
     Outcome::written(target, file, &said, &about)
 }
 
@@ -87,15 +85,30 @@ fn port_of(word: &OsStr) -> Result<u16, Failure> {
     })
 }
 
-/// Applies a message, and says what it did.
-fn apply(table: &mut Table, source: &Source, message: &Message, port: u16) -> Result<String, Failure> {
-    let before = table.save();
-    table.apply(&message.bytes, port).map_err(|refusal| explain::message(&source.name, message, refusal))?;
-    let done = done(&before, &table.save(), message);
-    Ok(format!("{}: {}: {done}", source.name, message.place))
+/// A table, the routes that it holds, and how many messages it has taken.
+struct Applied {
+    table: Table,
+    held: RouteList,
+    count: u64,
 }
 
-fn nothing_written(failure: Failure, before: u64) -> Failure {
+impl Applied {
+    fn to(list: RouteList) -> Applied {
+        let table = Table::build(&list, ROUTES_LAST).expect("no list has more routes than the largest table");
+        Applied { table, held: list, count: 0 }
+    }
+
+    /// Applies a message, and says what it did.
+    fn apply(&mut self, source: &Source, message: &Message, port: u16) -> Result<String, Failure> {
+        let refused = |refusal| nothing_written(&explain::message(&source.name, message, refusal), self.count);
+        self.table.apply(&message.bytes, port).map_err(refused)?;
+        let before = std::mem::replace(&mut self.held, self.table.save());
+        self.count += 1;
+        Ok(format!("{}: {}: {}", source.name, message.place, done(&before, &self.held, message)))
+    }
+}
+
+fn nothing_written(failure: &Failure, before: u64) -> Failure {
     let applied = match before {
         0 => String::new(),
         1 => " The message before it was not refused.".into(),
@@ -106,6 +119,10 @@ fn nothing_written(failure: Failure, before: u64) -> Failure {
 
 /// What a message did, from the routes held before and after it.
 fn done(before: &RouteList, after: &RouteList, message: &Message) -> String {
+    if before == after {
+        let is_end = message.bytes.len() == END_OF_RIB_BYTES;
+        return format!("changed nothing{}\n", if is_end { ", with nothing in it (End-of-RIB)" } else { "" });
+    }
     let [old, new] = [before, after].map(ports_of);
     let went = old.iter().filter(|(prefix, _)| !new.contains_key(prefix));
     let went: Vec<String> = went.map(|(prefix, port)| format!("  went     {prefix} {port}\n")).collect();
@@ -120,12 +137,7 @@ fn done(before: &RouteList, after: &RouteList, message: &Message) -> String {
     let counts = [(came.len(), "came"), (went.len(), "went"), (changed.len(), "changed the port")];
     let counts = counts.into_iter().filter(|(count, _)| *count > 0);
     let counts: Vec<String> = counts.map(|(count, what)| format!("{} {what}", routes(count))).collect();
-    let summary = match counts[..] {
-        [] if message.bytes.len() == END_OF_RIB_BYTES => "changed nothing, with nothing in it (End-of-RIB)".into(),
-        [] => "changed nothing".into(),
-        _ => counts.join(", "),
-    };
-    format!("{summary}\n{}", [came, went, changed].concat().concat())
+    format!("{}\n{}", counts.join(", "), [came, went, changed].concat().concat())
 }
 
 fn ports_of(list: &RouteList) -> BTreeMap<Prefix, u16> {

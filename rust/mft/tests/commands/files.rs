@@ -3,6 +3,7 @@
 use crate::support::{example, example_bytes, mft, mft_reading, Folder};
 use std::ffi::{OsStr, OsString};
 use std::fs;
+use std::io::Read;
 use std::os::unix::ffi::OsStrExt;
 use std::os::unix::fs::{symlink, PermissionsExt};
 
@@ -85,6 +86,18 @@ fn a_target_that_cannot_be_written_is_named_and_nothing_is_left() {
     }
     let ran = mft(&["compile", &example("floor.txt"), "-o", ""]);
     assert!(ran.not_tried().starts_with("mft: : cannot be written: "), "{}", ran.errors);
+}
+
+#[test]
+fn whoever_reads_the_old_file_meanwhile_has_all_of_it() {
+    let folder = Folder::new();
+    let target = folder.with("target", "as it was");
+    let mut reader = fs::File::open(&target).expect("it is there");
+    mft(&["compile", &example("floor.txt"), "-o", &target]).done();
+    let mut text = String::new();
+    reader.read_to_string(&mut text).expect("it can be read");
+    assert_eq!(text, "as it was");
+    assert_eq!(fs::read(&target).expect("it is there"), example_bytes("floor.routes"));
 }
 
 #[test]

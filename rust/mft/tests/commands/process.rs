@@ -85,6 +85,21 @@ fn an_output_that_is_full_is_an_error() {
     assert!(String::from_utf8_lossy(&output.stderr).starts_with("mft: standard output: cannot be written: "));
 }
 
+/// Files may have no bytes, so that writing one fails once it is begun.
+#[test]
+fn a_file_that_cannot_be_written_to_its_end_leaves_what_was_there() {
+    let folder = Folder::new();
+    let target = folder.with("target", "as it was");
+    let limited = "trap '' XFSZ; ulimit -f 0; exec \"$0\" compile \"$1\" -o \"$2\"";
+    let words = [limited, env!("CARGO_BIN_EXE_mft"), &example("line.txt"), &target];
+    let output = Command::new("sh").arg("-c").args(words).output().expect("there is a shell");
+    assert_eq!(output.status.code(), Some(2));
+    let said = String::from_utf8_lossy(&output.stderr).into_owned();
+    assert!(said.starts_with(&format!("mft: {target}: cannot be written: ")), "{said}");
+    assert_eq!(std::fs::read(&target).expect("it is there"), b"as it was");
+    assert_eq!(folder.names(), ["target"]);
+}
+
 #[test]
 fn errors_that_nobody_reads_end_it_all_the_same() {
     let full = OpenOptions::new().write(true).open("/dev/full").expect("Linux has it");

@@ -42,8 +42,8 @@ pub fn read(source: &Source) -> Result<RouteList, Failure> {
     }
 }
 
-/// The routes as a list, in list order; none where the library refuses it. Where it refuses one route, the list is tried
-/// again without that one, so that all of them are told.
+/// The routes as a list, in list order; none where the library refuses it. Where it refuses one route, the list is
+/// tried again without that one, so that all of them are told.
 fn list_of(mut said: Vec<Said>, faults: &mut Faults) -> Option<RouteList> {
     let first_too_many = said.get(ROUTES_LAST).map(|said| said.line);
     said.sort_by_key(|said| said.route.prefix());

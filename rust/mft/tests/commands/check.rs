@@ -21,7 +21,7 @@ fn a_good_file_is_called_good() {
 #[test]
 fn prefixes_with_bits_past_their_length_are_named() {
     let said = mft(&["check", &example("controller.routes")]).done();
-    assert!(said.contains("good, 12 routes in 75 bytes\nIn 9 routes bits are set past the length of the prefix, which"));
+    assert!(said.contains("good, 12 routes in 75 bytes\nIn 9 routes bits are set past the length of the prefix"));
     assert!(said.contains("\n   route 2   byte 8  10.156.0.0/9     is read as  10.128.0.0/9 300\n"), "{said}");
     assert!(said.contains("\n  route 12  byte 70  172.31.0.0/12    is read as  172.16.0.0/12 400\n"), "{said}");
     assert_eq!(said.lines().count(), 11);

@@ -134,6 +134,26 @@ fn a_missing_port_is_marked_where_it_should_stand() {
 }
 
 #[test]
+fn lines_are_counted_alike_whatever_ends_them() {
+    for end in ["\n", "\r\n", "\r"] {
+        let said = fault(["10.0.0.0/8 7", "# the bays", "", "10.20.1.0/24 x", ""].join(end));
+        assert!(
+            said.starts_with("mft: standard input: line 4: ") && said.contains("\n  4 | 10.20.1.0/24 x\n"),
+            "{said}"
+        );
+    }
+}
+
+#[test]
+fn a_line_with_an_earlier_number_is_shown_first_though_it_is_found_last() {
+    let mut lines = vec!["10.0.0.0/8 7".to_string(); 2];
+    lines.extend((0..20).map(|number| format!("10.{number}.0.0/16 x")));
+    let said = fault(lines.join("\n"));
+    assert!(said.starts_with("mft: standard input: line 2: 10.0.0.0/8 stands in line 1 already"), "{said}");
+    assert!(said.ends_with("mft: standard input: 11 lines are at fault besides.\n"), "{said}");
+}
+
+#[test]
 fn equal_prefixes_are_refused_with_both_lines() {
     for port in [101, 102] {
         let said = fault(format!("10.20.1.0/24 101 # first\n10.0.0.0/8 7\n10.20.1.0/24 {port}\n"));

@@ -140,12 +140,3 @@ uint32_t plain_segments_lookup(const uint16_t *first, size_t first_count, const 
         return replied(NOT_IN_ORDER, 0, reads, answer);
     return replied_port(last[from + (address & 255)], reads + 1, answer);
 }
-
-/* What a call takes that has the parameters of a lookup, and answers three words without looking anything up. */
-uint32_t plain_segments_nothing(const uint16_t *first, size_t first_count, const uint16_t *packed, size_t packed_count,
-                                const uint16_t *plain, size_t plain_count, const uint16_t *last, size_t last_count, uint32_t address,
-                                uint32_t *answer)
-{
-    (void)first, (void)first_count, (void)packed, (void)packed_count, (void)plain, (void)plain_count, (void)last, (void)last_count;
-    return replied(0, address, 0, answer);
-}

@@ -27,18 +27,6 @@ extern "C" {
         address: u32,
         answer: *mut u32,
     ) -> u32;
-    fn plain_segments_nothing(
-        first: *const u16,
-        first_count: usize,
-        packed: *const u16,
-        packed_count: usize,
-        plain: *const u16,
-        plain_count: usize,
-        last: *const u16,
-        last_count: usize,
-        address: u32,
-        answer: *mut u32,
-    ) -> u32;
 }
 
 /// Builds the tables of a list, and gives how many packed segments, plain segments and last blocks they have.
@@ -57,38 +45,12 @@ pub fn build(list: &RouteList, stores: &mut Stores) -> [u32; 3] {
     blocks
 }
 
-/// A function of C with the parameters of a lookup.
-type Call = unsafe extern "C" fn(
-    *const u16,
-    usize,
-    *const u16,
-    usize,
-    *const u16,
-    usize,
-    *const u16,
-    usize,
-    u32,
-    *mut u32,
-) -> u32;
-
 /// The answer of `calls::segments_lookup`.
-#[inline]
 pub fn lookup(first: &[u16], packed: &[u16], plain: &[u16], last: &[u16], address: u32) -> Reply<3> {
-    replied(plain_segments_lookup, [first, packed, plain, last], address)
-}
-
-/// The address for a port, by a call that looks nothing up.
-#[inline]
-pub fn nothing(first: &[u16], packed: &[u16], plain: &[u16], last: &[u16], address: u32) -> Reply<3> {
-    replied(plain_segments_nothing, [first, packed, plain, last], address)
-}
-
-#[inline]
-fn replied(call: Call, [first, packed, plain, last]: [&[u16]; 4], address: u32) -> Reply<3> {
     let mut answer = [0; 3];
     // SAFETY: the pointers are those of slices, with their lengths, and of an array of three words; none is kept.
     let number = unsafe {
-        call(
+        plain_segments_lookup(
             first.as_ptr(),
             first.len(),
             packed.as_ptr(),

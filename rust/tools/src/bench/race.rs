@@ -10,8 +10,8 @@ pub enum Runner {
     Plain,
     /// The proved library itself, by an image at stride 4: another structure for the same addresses.
     Image,
-    /// A call with the parameters of the proved library's that does nothing: what the boundary itself takes.
-    Nothing,
+    /// The proved library itself, by a call that is refused at once: what a call takes that does nothing.
+    Refused,
     /// The proved library itself, by a call for each address, beside one call for all of them.
     Single,
     /// The proved library itself, by a check of the good order of the same table, beside messages.

@@ -7,18 +7,18 @@ pub fn report(all: &[Measured]) -> String {
     all.iter().map(tables).collect::<Vec<_>>().join("\n")
 }
 
-/// The runners by which the library is measured against itself, or against its boundary, each with the head of its table.
+/// The runners by which the library is measured against itself, each with the head of its table.
 const OWN: [(Runner, [&str; 4]); 5] = [
     (Runner::Image, ["What", "segment tables", "image, stride 4", "segment tables ÷ image"]),
-    (Runner::Nothing, ["What", "segment tables", "a call that does nothing", "segment tables ÷ that call"]),
+    (Runner::Refused, ["What", "segment tables", "a call refused at once", "segment tables ÷ that call"]),
     (Runner::Single, ["What", "one call for all", "a call for each", "one call ÷ a call for each"]),
     (Runner::Check, ["What", "message", "good-order check", "message ÷ check"]),
     (Runner::CheckOfCounted, ["What", "with counts", "good-order check", "with counts ÷ check"]),
 ];
 
 /// First what is measured against plain code and the reference, then segment tables against an image and against a call
-/// that does nothing, many lookups in one call against as many calls, and messages and counts against the check of a
-/// table.
+/// that is refused at once, many lookups in one call against as many calls, and messages and counts against the check of
+/// a table.
 fn tables(measured: &Measured) -> String {
     let of = |runner| measured.outcomes.iter().filter(move |outcome| outcome.of(runner).is_some());
     let against_others = measured.outcomes.iter().filter(|outcome| is_against_others(outcome));

@@ -1,5 +1,5 @@
-//! Segment tables: lookups against the plain trie, a plain lookup in C, the image at stride 4 and a call that does
-//! nothing, and many in one call against as many calls; and the build.
+//! Segment tables: lookups against the plain trie, a plain lookup in C, the image at stride 4 and the call alone, and
+//! many in one call against as many calls; and the build.
 
 use super::lookups::{against_trie, in_one_call};
 use super::race::{Race, Runner};
@@ -14,7 +14,7 @@ pub fn races(subject: &Subject) -> Vec<Race<'_>> {
         lookup(subject),
         lookup_in_c(subject),
         lookup_in_image(subject),
-        nothing(subject),
+        call_alone(subject),
         lookup_many(subject),
         build(subject),
     ]
@@ -52,10 +52,11 @@ fn lookup_in_image(subject: &Subject) -> Race<'_> {
     })
 }
 
-fn nothing(subject: &Subject) -> Race<'_> {
-    let Subject { segments: [first, packed, plain, last], addresses, .. } = subject;
-    proved("lookup, and its call alone", subject).runner(Runner::Nothing, addresses.len(), move |number| {
-        plain_segments::nothing(first, packed, plain, last, addresses[number]).answer[1]
+/// With an empty first table the same call is refused before it reads a word: what is left is the call itself.
+fn call_alone(subject: &Subject) -> Race<'_> {
+    let Subject { segments: [_, packed, plain, last], addresses, .. } = subject;
+    proved("lookup, and its call alone", subject).runner(Runner::Refused, addresses.len(), move |number| {
+        calls::segments_lookup(&[], packed, plain, last, addresses[number]).answer[1]
     })
 }
 

@@ -2,10 +2,9 @@
 use mathlib.Core.Path.{_≡_, sym, ap, ap₂, _∙_}
 use mathlib.Core.Bool.{Bool, _||_}
 use mathlib.Core.List.{List}
-use Prim.Native.Nat.{ℕ, _+_, _≤_}
+use Prim.Native.Nat.{ℕ, _+_}
 use native.Mathlib.Omega.{arith}
 use lib.Dec.{eqb}
-use lib.ListN.{length}
 use borrow.Author.Tests.{ne-eqb}
 use Rattle.bits.specs.Prefix.{precedes}
 use Rattle.refusals.specs.Refusals.{refused}
@@ -27,9 +26,6 @@ use Rattle.prefix.specs.declared.Prefix.{Prefix}
 module _ (w : ℕ) (file : List ℕ) (at : ℕ) (p : Prefix) (k : ℕ) (p-is : p ≡ prefixAt w file at) (k-is : k ≡ prefixBytes (p .len)) where
   size-is : at + 1 + k ≡ at + prefixSize (lenAt file at)
   size-is = omega (arith, k-is ∙ ap (λ (q : Prefix). prefixBytes (q .len)) p-is)
-
-  pub port-fits : Entire w file at → at + 1 + k + 2 ≤ length file
-  port-fits entire = omega (arith, size-is, entire .uncut)
 
   pub read-is : (port : ℕ) → port ≡ portFrom file (at + 1 + k) → route (p .value) (p .len) port ≡ readAt w file at
   unfolding readAt

@@ -1,7 +1,7 @@
 // One step of the reader at a cursor: the cursor after the route, or the refusal with its place.
 ghost use mathlib.Core.Path.{_≡_};
 ghost use mathlib.Core.Bool.{_||_};
-ghost use Prim.Native.Nat.{_+_, _≤_, _<_};
+ghost use Prim.Native.Nat.{_<_};
 ghost use lib.Dec.{eqb};
 ghost use lib.ListN.{length};
 ghost use Rattle.bits.specs.Prefix.{precedes};
@@ -38,9 +38,8 @@ pub enum Step {
     Refused(Answer),
 }
 
-// The port from its two bytes.
+// The port from its two bytes; those past the end are left out.
 fn port_from(file: &[u8], from: usize) -> u32
-    requires { ⌜ from + 2 ≤ length (now file) ⌝ }
     ensures { λ r. ⌜ r ≡ portFrom (now (file .entry)) from ⌝ }
 {
     number_at(file, from, 2) as u32

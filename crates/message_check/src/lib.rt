@@ -45,9 +45,8 @@ fn is_unmarked(message: &[u8]) -> bool
     false
 }
 
-// A field of two bytes.
+// A field of two bytes; those past the end are left out.
 fn field_at(message: &[u8], at: usize) -> usize
-    requires { ⌜ at + 2 ≤ length (now message) ⌝ }
     ensures { λ r. ⌜ Field (now (message .entry)) at r ⌝ }
 {
     number_at(message, at, 2) as usize
@@ -55,7 +54,6 @@ fn field_at(message: &[u8], at: usize) -> usize
 
 // Whether the length that the message states is below 23, above 4,096 or not that of the bytes lent.
 fn is_wrong_length(message: &[u8]) -> bool
-    requires { ⌜ leastSize ≤ length (now message) ⌝ }
     ensures { λ r. ⌜ r ≡ wrongLength (now (message .entry)) ⌝ }
 {
     let stated = field_at(message, LENGTH_AT);
@@ -64,7 +62,6 @@ fn is_wrong_length(message: &[u8]) -> bool
 
 // The inner lengths: neither may lie past the end, and two bytes follow the withdrawn part.
 fn inner_check(message: &[u8]) -> Answer
-    requires { ⌜ (leastSize ≤ length (now message)) × (length (now message) ≤ mostSize) ⌝ }
     ensures { λ r. ⌜ r ≡ innerCheck (now (message .entry)) ⌝ }
 {
     let end = WITHDRAWN_AT + field_at(message, WITHDRAWN_SIZE_AT);

@@ -7,7 +7,7 @@ use native.Mathlib.Numerals.{add-one}
 use native.Mathlib.Nat.{add-zero, add-suc, div-one, mod-eq-of-lt}
 use lib.Pow.{pow-add, pow-mono, shl-exact, shl-lt, shr-shr, high}
 use lib.ListN.{length, getD, take, drop, length-drop}
-use lib.Seq.{take-suc, getD-drop}
+use lib.Seq.{take-all, take-suc, getD-drop}
 use Rattle.bits.specs.Prefix.{first}
 use Rattle.bits.proofs.Prefix.{first-first, first-le}
 use Rattle.octets.specs.Bytes.{number, Bytes}
@@ -38,6 +38,16 @@ module _ (bytes : List ℕ) (from : ℕ) where
 
       p : 2 ^ (8 * (j + 1)) ≡ 256 * 2 ^ (8 * j)
       p = ap (λ (i : ℕ). 2 ^ i) z ∙ pow-add 2 8 (8 * j)
+
+  -- of more bytes than there are, those that there are
+  pub number-cut : (k left r : ℕ) → left ≡ length bytes - from → left ≤ k → NumberAt bytes from left r → NumberAt bytes from k r
+  number-cut k left r e h n = record {
+    is = n .is ∙ ap number (take-all left (drop from bytes) (omega (arith, length-drop from bytes)) ∙ sym (take-all k (drop from bytes) (omega (arith, length-drop from bytes))));
+    small = omega (arith, n .small, pow-mono {i = 8 * left} {j = 8 * k} (omega arith));
+  }
+
+  pub number-past : (k : ℕ) → length bytes ≤ from → NumberAt bytes from k 0
+  number-past k h = number-cut k 0 0 (omega arith) (omega arith) number-none
 
   -- fewer than four bytes leave room for one more
   pub number-room : (j sum : ℕ) → j < 4 → NumberAt bytes from j sum → sum < 2 ^ 24

@@ -1,15 +1,20 @@
 -- Bytes stored one after the other from an offset on. Assumes nothing.
 use mathlib.Core.Path.{_≡_, refl, sym, ap, ap₂, _∙_}
+use mathlib.Core.Bool.{Bool, cond}
 use mathlib.Core.List.{List, [], _∷_, _++_, append-assoc}
 use Prim.Native.Nat.{ℕ, zero, suc, _+_, _-_, _*_, _/_, _%_, _^_, _≤_, _<_}
 use native.Mathlib.Omega.{arith}
 use native.Mathlib.Numerals.{add-one}
+use lib.Dec.{leb}
 use lib.ListN.{length, getD, set, take, drop, length-append, length-set}
 use lib.Seq.{paste, paste-zero, paste-suc, length-paste, take-paste, drop-paste, take-all, take-at, drop-append-add, drop-drop}
+use borrow.Author.Tests.{le-leb, lt-leb}
 use Rattle.promise.specs.Over.{over}
 use Rattle.octets.specs.Bytes.{digits}
-use Rattle.octets.specs.Octets.{prefixBytes, prefixSize, prefixOctets, stored}
+use Rattle.octets.specs.Octets.{prefixBytes, prefixSize, prefixOctets, stored, putAt, prefixPut}
+use Rattle.octets.specs.Needs.{fourOf}
 use Rattle.octets.proofs.Bytes.{length-digits}
+use Rattle.octets.proofs.Prefixes.{length-prefix-octets}
 
 pub length-stored : (bytes : List ℕ) (at : ℕ) (new : List ℕ) → at + length new ≤ length bytes → length (stored bytes at new) ≡ length bytes
 length-stored bytes at new h = length-paste bytes at new (length new) h (omega arith)
@@ -87,3 +92,44 @@ prefix-stored w bytes₀ bytes₁ bytes₂ at k value len short k-is room one tw
     let a : bytes₁ ≡ stored bytes₀ at (len ∷ []) = one ∙ ap (λ (b : ℕ). stored bytes₀ at (b ∷ [])) byte in
     two ∙ ap (λ (l : List ℕ). stored l (at + 1) B) a ∙ stored-stored bytes₀ at (len ∷ []) B (omega (arith, lb, k-is))
     ∙ ap (λ (j : ℕ). stored bytes₀ at ((len ∷ []) ++ digits j (value / 2 ^ (w - 8 * j)))) k-is
+
+-- what is stored where there is room, and only there
+
+module _ (bytes : List ℕ) (at : ℕ) (new : List ℕ) where
+  pub put-fits : at + length new ≤ length bytes → putAt bytes at new ≡ stored bytes at new
+  unfolding putAt
+  put-fits h = rw (le-leb (at + length new) (length bytes) h)
+
+  pub put-over : length bytes < at + length new → putAt bytes at new ≡ bytes
+  unfolding putAt
+  put-over h = rw (lt-leb (at + length new) (length bytes) h)
+
+-- a number, of n bytes
+module _ (bytes : List ℕ) (at k x n : ℕ) (n-is : n ≡ fourOf k) where
+  pub number-over : length bytes < at + n → putAt bytes at (digits (fourOf k) x) ≡ bytes
+  number-over h = put-over bytes at (digits (fourOf k) x) (omega (arith, length-digits (fourOf k) x, n-is))
+
+  pub number-stored : at + n ≤ length bytes → putAt bytes at (digits (fourOf k) x) ≡ stored bytes at (digits n x)
+  number-stored h =
+      put-fits bytes at (digits (fourOf k) x) (omega (arith, length-digits (fourOf k) x, n-is))
+      ∙ ap (λ (m : ℕ). stored bytes at (digits m x)) (sym n-is)
+
+-- one that fits
+pub number-fits : (bytes : List ℕ) (at k x : ℕ) → k ≤ 4 → at + k ≤ length bytes → putAt bytes at (digits (fourOf k) x) ≡ stored bytes at (digits k x)
+number-fits bytes at k x few h = number-stored bytes at k x k (sym (ap (λ (t : Bool). cond t k 4) (le-leb k 4 few))) h
+
+-- a prefix
+module _ (w : ℕ) (bytes : List ℕ) (at value len : ℕ) where
+  pub prefix-long : w < len → prefixPut w bytes at value len ≡ bytes
+  unfolding prefixPut
+  prefix-long h = rw (lt-leb len w h)
+
+  prefix-short : len ≤ w → prefixPut w bytes at value len ≡ putAt bytes at (prefixOctets w value len)
+  unfolding prefixPut
+  prefix-short h = rw (le-leb len w h)
+
+  pub prefix-over : len ≤ w → length bytes < at + prefixSize len → prefixPut w bytes at value len ≡ bytes
+  prefix-over short h = prefix-short short ∙ put-over bytes at (prefixOctets w value len) (omega (arith, length-prefix-octets w value len))
+
+  pub prefix-fits : len ≤ w → at + prefixSize len ≤ length bytes → prefixPut w bytes at value len ≡ stored bytes at (prefixOctets w value len)
+  prefix-fits short h = prefix-short short ∙ put-fits bytes at (prefixOctets w value len) (omega (arith, length-prefix-octets w value len))

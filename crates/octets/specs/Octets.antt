@@ -1,7 +1,9 @@
 -- Defines a prefix of w-bit addresses as bytes, one of length and the fewest that hold it, and where it stands among others: RULES,
 -- "The route file". Assumes nothing.
+use mathlib.Core.Bool.{cond}
 use mathlib.Core.List.{List, [], _∷_, _++_}
 use Prim.Native.Nat.{ℕ, _+_, _-_, _*_, _/_, _^_}
+use lib.Dec.{leb}
 use lib.ListN.{length, getD, take, drop}
 use lib.Seq.{paste}
 use Rattle.bits.specs.Prefix.{first}
@@ -45,3 +47,11 @@ prefixOctets w value len = (len ∷ []) ++ digits (prefixBytes len) (value / 2 ^
 -- bytes stored from an offset on, the others as they were
 abbrev pub stored : List ℕ → ℕ → List ℕ → List ℕ
 stored bytes at new = paste bytes at new (length new)
+
+-- the same where there is room for them; else no byte changes
+unfoldable pub putAt : List ℕ → ℕ → List ℕ → List ℕ
+putAt bytes at new = cond (leb (at + length new) (length bytes)) (stored bytes at new) bytes
+
+-- a prefix stored so, if it is one
+unfoldable pub prefixPut : ℕ → List ℕ → ℕ → ℕ → ℕ → List ℕ
+prefixPut w bytes at value len = cond (leb len w) (putAt bytes at (prefixOctets w value len)) bytes

@@ -4,8 +4,8 @@ ghost use Prim.Native.Nat.{_+_, _^_, _≤_, _<_};
 ghost use lib.ListN.{length};
 ghost use Rattle.bits.specs.Prefix.{first};
 ghost use Rattle.octets.specs.Bytes.{digits};
-ghost use Rattle.octets.specs.Octets.{prefixBytes, prefixSize, lenAt, valueFrom, prefixAt, prefixOctets, stored};
-ghost use Rattle.octets.specs.Needs.{BytesFor, SizeFor, ByteIs, NumberAt};
+ghost use Rattle.octets.specs.Octets.{prefixBytes, prefixSize, lenAt, valueFrom, prefixAt, prefixOctets, stored, putAt, prefixPut};
+ghost use Rattle.octets.specs.Needs.{BytesFor, SizeFor, ByteIs, fourOf, NumberAt};
 ghost use Rattle.octets.specs.Taken.{takenAt};
 use prefix::Prefix;
 
@@ -30,8 +30,15 @@ fn wide(b: u8) -> u64
     b as u64
 }
 
-// The number that k bytes write, big-endian.
-pub fn number_at(bytes: &[u8], from: usize, k: usize) -> u64
+// A number up to four.
+fn four_of(k: usize) -> usize
+    ensures { λ r. ⌜ (r ≡ fourOf k) × (r ≤ 4) ⌝ }
+{
+    if k <= 4 { k } else { 4 }
+}
+
+// The number that k bytes write, big-endian, where they are all there.
+fn number_of(bytes: &[u8], from: usize, k: usize) -> u64
     requires { ⌜ (from + k ≤ length (now bytes)) × (k ≤ 4) ⌝ }
     ensures { λ r. ⌜ NumberAt (now (bytes .entry)) from k r ⌝ }
 {
@@ -44,12 +51,30 @@ pub fn number_at(bytes: &[u8], from: usize, k: usize) -> u64
     sum
 }
 
-// The length byte of the prefix at an offset.
+// The number that k bytes write, big-endian: of more than four the first four, and of those the ones that are there.
+pub fn number_at(bytes: &[u8], from: usize, k: usize) -> u64
+    ensures { λ r. ⌜ NumberAt (now (bytes .entry)) from (fourOf k) r ⌝ }
+{
+    if bytes.len() <= from {
+        return 0;
+    }
+    let left = bytes.len() - from;
+    let most = four_of(k);
+    if left < most {
+        return number_of(bytes, from, left);
+    }
+    number_of(bytes, from, most)
+}
+
+// The length byte of the prefix at an offset; 0 past the end.
 pub fn length_at(bytes: &[u8], at: usize) -> u32
-    requires { ⌜ at < length (now bytes) ⌝ }
     ensures { λ r. ⌜ ByteIs (lenAt (now (bytes .entry)) at) r ⌝ }
 {
-    wide(bytes[at]) as u32
+    if at < bytes.len() {
+        wide(bytes[at]) as u32
+    } else {
+        0
+    }
 }
 
 // The bytes of a value with all that is past the length cleared. Nothing else decides what becomes of spare bits.
@@ -68,10 +93,10 @@ fn value_from(bytes: &[u8], from: usize, len: u32) -> u32
 {
     // Four bytes at once where there are so many, and those past the prefix cleared too: no loop whose end must be guessed.
     if from + 4 <= bytes.len() {
-        return clear_past(number_at(bytes, from, 4), len);
+        return clear_past(number_of(bytes, from, 4), len);
     }
     let k = prefix_bytes(len);
-    let high = number_at(bytes, from, k);
+    let high = number_of(bytes, from, k);
     clear_past(high << (32 - 8 * k), len)
 }
 
@@ -109,8 +134,8 @@ pub fn take_prefix(bytes: &[u8], at: usize) -> Taken
     Taken::Whole(prefix_at(bytes, at))
 }
 
-// Stores the last k bytes of a number, big-endian, from an offset on.
-pub fn put_number(bytes: &mut [u8], at: usize, k: usize, x: u64)
+// Stores the last k bytes of a number, big-endian, from an offset on, where there is room for them.
+fn store_number(bytes: &mut [u8], at: usize, k: usize, x: u64)
     requires { ⌜ (at + k ≤ length (now bytes)) × (k ≤ 4) ⌝ }
     ensures { λ _. ⌜ now (bytes .exit) ≡ stored (now (bytes .entry)) at (digits k x) ⌝ }
 {
@@ -122,13 +147,44 @@ pub fn put_number(bytes: &mut [u8], at: usize, k: usize, x: u64)
     }
 }
 
-// Stores a prefix from an offset on: its length, and the bytes that hold it.
-pub fn put_prefix(bytes: &mut [u8], at: usize, value: u32, len: u32)
+// Stores the last k bytes of a number, four at most, big-endian, from an offset on; none where there is no room for them.
+pub fn put_number(bytes: &mut [u8], at: usize, k: usize, x: u64)
+    ensures { λ _. ⌜ now (bytes .exit) ≡ putAt (now (bytes .entry)) at (digits (fourOf k) x) ⌝ }
+{
+    let most = four_of(k);
+    if bytes.len() < most {
+        return;
+    }
+    if bytes.len() - most < at {
+        return;
+    }
+    store_number(bytes, at, most, x);
+}
+
+// Stores a prefix from an offset on, where there is room for it: its length, and the bytes that hold it.
+fn store_prefix(bytes: &mut [u8], at: usize, value: u32, len: u32)
     requires { ⌜ (at + prefixSize len ≤ length (now bytes)) × (len ≤ 32) ⌝ }
     ensures { λ _. ⌜ now (bytes .exit) ≡ stored (now (bytes .entry)) at (prefixOctets 32 value len) ⌝ }
 {
     let k = prefix_bytes(len);
     let gap = 32 - 8 * k;
-    put_number(bytes, at, 1, len as u64);
-    put_number(bytes, at + 1, k, (value as u64) >> gap);
+    store_number(bytes, at, 1, len as u64);
+    store_number(bytes, at + 1, k, (value as u64) >> gap);
+}
+
+// Stores a prefix from an offset on; nothing where there is no room for it, or its length is above 32.
+pub fn put_prefix(bytes: &mut [u8], at: usize, value: u32, len: u32)
+    ensures { λ _. ⌜ now (bytes .exit) ≡ prefixPut 32 (now (bytes .entry)) at value len ⌝ }
+{
+    if 32 < len {
+        return;
+    }
+    let size = prefix_size(len);
+    if bytes.len() < size {
+        return;
+    }
+    if bytes.len() - size < at {
+        return;
+    }
+    store_prefix(bytes, at, value, len);
 }

@@ -1,3 +1,6 @@
+use mathlib.Core.Path.{_∙_}
+use native.Mathlib.Omega.{arith}
+use Rattle.octets.proofs.Store.{number-fits, prefix-fits}
 use Rattle.file_write.proofs.Store.{route-stored}
 use borrow.Author.Needs.{needs}
 use Rattle.file_write.proofs.put_bytes.Statement.{statement}
@@ -27,7 +30,9 @@ returns c =
     let k = n .before .before in
     let p = k .before .before .before .before in
     let s = p .before .before .before in
-    route-stored 32 (s .args .file .now) _ _ (s .args .at) _ (s .args .r) (k .prefix-size .ensures .is) (s .pre .0) (p .put-prefix .ensures) (n .put-number .ensures)
+    route-stored 32 (s .args .file .now) _ _ (s .args .at) _ (s .args .r) (k .prefix-size .ensures .is) (s .pre .0)
+    (p .put-prefix .ensures ∙ prefix-fits 32 (s .args .file .now) (s .args .at) _ _ (s .pre .1) (omega (arith, s .pre .0)))
+    (n .put-number .ensures ∙ number-fits _ _ 2 _ (omega arith) (search needs))
 
 pub put-bytes-spec : {M : Type 1} → statement M
 put-bytes-spec =

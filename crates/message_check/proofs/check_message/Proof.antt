@@ -1,6 +1,6 @@
 use mathlib.Core.Path.{_∙_}
 use native.Mathlib.Omega.{arith}
-use Rattle.message_check.proofs.Whole.{head-refused, fits, end-within, withdrawn-room, withdrawn-refused, at-within, announced-room, announced-refused, message-done}
+use Rattle.message_check.proofs.Whole.{head-refused, end-within, withdrawn-room, withdrawn-refused, at-within, announced-room, announced-refused, message-done}
 use borrow.Author.Needs.{needs}
 use Rattle.message_check.proofs.check_message.Statement.{statement}
 use Rattle.message_check.proofs.check_message.Tie as tie
@@ -17,9 +17,7 @@ returns c =
     c .refused-by .ensures ∙ head-refused 32 (h .before .before .args .message .now) _ (h .head-check .ensures) (c .before .if1 .taken)
 
 field-at-requires : tie.Need-field-at-requires
-field-at-requires c κs =
-    let h = c .before .before in
-    omega (arith, fits 32 (h .before .before .args .message .now) _ (h .head-check .ensures) (c .if1 .left) .least)
+field-at-requires c κs = search needs
 
 add-end : tie.Need-add-end
 add-end c = search needs
@@ -57,10 +55,7 @@ add-at : tie.Need-add-at
 add-at c = search needs
 
 field-at-requires-2 : tie.Need-field-at-requires-2
-field-at-requires-2 c κs =
-    let f = c .before .before .before .before in
-    let h = f .before .before .before in
-    end-within 32 (h .before .before .args .message .now) _ (h .head-check .ensures) (f .before .if1 .left) _ (f .field-at .ensures .is)
+field-at-requires-2 c κs = search needs
 
 add-at-2 : tie.Need-add-at-2
 add-at-2 c = search needs

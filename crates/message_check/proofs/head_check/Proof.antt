@@ -1,5 +1,4 @@
 use mathlib.Core.Path.{sym, _∙_}
-use Rattle.message_rules.proofs.Heads.{right-length}
 use Rattle.message_check.proofs.Returns.{head-short, head-unmarked, head-wrong-length, head-inner, head-other}
 use borrow.Author.Needs.{needs}
 use Rattle.message_check.proofs.head_check.Statement.{statement}
@@ -43,9 +42,7 @@ shared-slice-read-if4 : tie.Need-shared-slice-read-if4
 shared-slice-read-if4 c = search needs
 
 inner-check-requires : tie.Need-inner-check-requires
-inner-check-requires c κs =
-    let l = c .before .before .before in
-    (l .before .before .before .if1 .left, right-length (l .before .before .before .before .before .args .message .now) (sym (l .is-wrong-length .ensures) ∙ c .before .before .if3 .left) .0)
+inner-check-requires c κs = search needs
 
 returns-4 : tie.Need-returns-4
 returns-4 c =

@@ -2,6 +2,7 @@ use mathlib.Core.Path.{ap, _∙_}
 use native.Mathlib.Omega.{arith}
 use lib.ListN.{length, length-set}
 use borrow.Author.Needs.{needs}
+use Rattle.octets.proofs.Store.{number-fits}
 use Rattle.message_write.proofs.Heads.{head-stored, length-over-head}
 use Rattle.message_write.proofs.put_head.Statement.{statement}
 use Rattle.message_write.proofs.put_head.Tie as tie
@@ -19,7 +20,7 @@ slice-write-message : tie.Need-slice-write-message
 slice-write-message c = search needs
 
 put-number-requires-2 : tie.Need-put-number-requires-2
-put-number-requires-2 c κs = (simp length-set (omega arith), omega arith)
+put-number-requires-2 c κs = search needs
 
 same-length : tie.Need-same-length
 same-length c =
@@ -27,7 +28,7 @@ same-length c =
     let m = n .before .before .before .before in
     let k = m .before .before .before .before in
     let s = k .before .before .before in
-    ap length (head-stored (s .args .message .now) (s .args .size) (s .pre .0) _ _ _ (k .put-marker .ensures) (m .put-number .ensures) (n .put-number2 .ensures))
+    ap length (head-stored (s .args .message .now) (s .args .size) (s .pre .0) _ _ _ (k .put-marker .ensures) (m .put-number .ensures ∙ number-fits _ _ 2 _ (omega arith) (search needs)) (n .put-number2 .ensures ∙ number-fits _ _ 2 _ (omega arith) (simp length-set (omega arith))))
     ∙ length-over-head (s .args .message .now) (s .args .size) (s .pre .0)
 
 returns : tie.Need-returns
@@ -36,7 +37,7 @@ returns c =
     let m = n .before .before .before .before in
     let k = m .before .before .before .before in
     let s = k .before .before .before in
-    head-stored (s .args .message .now) (s .args .size) (s .pre .0) _ _ _ (k .put-marker .ensures) (m .put-number .ensures) (n .put-number2 .ensures)
+    head-stored (s .args .message .now) (s .args .size) (s .pre .0) _ _ _ (k .put-marker .ensures) (m .put-number .ensures ∙ number-fits _ _ 2 _ (omega arith) (search needs)) (n .put-number2 .ensures ∙ number-fits _ _ 2 _ (omega arith) (simp length-set (omega arith)))
 
 pub put-head-spec : {M : Type 1} → statement M
 put-head-spec =

@@ -1,7 +1,9 @@
+use mathlib.Core.Path.{_∙_}
 use Prim.Native.Nat.{_-_}
 use native.Mathlib.Omega.{arith}
 use borrow.Author.Needs.{needs}
 use Rattle.routes.specs.Routes.{routeAt, routeCount}
+use Rattle.octets.proofs.Store.{prefix-fits}
 use Rattle.octets.proofs.Parts.{laid-none, laid-next, laid-more, laid-all}
 use Rattle.message_rules.specs.Message.{withdrawnAt}
 use Rattle.message_write.proofs.Listed.{prefixCoding, Listed, listed-room}
@@ -24,11 +26,7 @@ route-at-requires : tie.Need-route-at-requires Inv-loop μ-loop
 route-at-requires c κs = search needs
 
 put-prefix-requires : tie.Need-put-prefix-requires Inv-loop μ-loop
-put-prefix-requires c κs =
-    let x = c .before in
-    let l = x .before .before in
-    let s = l .before .before .before in
-    listed-room 32 (s .args .list .now) (s .args .message .now) (s .pre) (l .loop .message) (l .loop .at) (l .loop .i) (l .loop .inv) (x .before .loop-test .taken) _ (x .route-at .ensures)
+put-prefix-requires c κs = search needs
 
 prefix-size-requires : tie.Need-prefix-size-requires Inv-loop μ-loop
 prefix-size-requires c κs = search needs
@@ -54,7 +52,8 @@ loop-again c =
     let l = x .before .before in
     let s = l .before .before .before in
     let list = s .args .list .now in
-    laid-more (prefixCoding 32) (routeAt list) (routeCount list) withdrawnAt (s .args .message .now) (s .pre .room) (l .loop .message) (l .loop .at) (l .loop .i) (l .loop .inv) (x .before .loop-test .taken) _ _ _ (x .route-at .ensures) (c .prefix-size .ensures .is) (p .put-prefix .ensures)
+    let room = listed-room 32 list (s .args .message .now) (s .pre) (l .loop .message) (l .loop .at) (l .loop .i) (l .loop .inv) (x .before .loop-test .taken) _ (x .route-at .ensures) in
+    laid-more (prefixCoding 32) (routeAt list) (routeCount list) withdrawnAt (s .args .message .now) (s .pre .room) (l .loop .message) (l .loop .at) (l .loop .i) (l .loop .inv) (x .before .loop-test .taken) _ _ _ (x .route-at .ensures) (c .prefix-size .ensures .is) (p .put-prefix .ensures ∙ prefix-fits 32 _ _ _ _ (room .1) (room .0))
 
 same-length : tie.Need-same-length Inv-loop μ-loop
 same-length c = c .before .loop .inv .same

@@ -1,5 +1,7 @@
+use mathlib.Core.Path.{_∙_}
 use native.Mathlib.Omega.{arith}
 use borrow.Author.Needs.{needs}
+use Rattle.octets.proofs.Store.{number-fits}
 use Rattle.message_write.proofs.WriteCall.{write-refused, write-valid, write-long, write-short, write-fits, write-all}
 use Rattle.message_write.proofs.write_message.Statement.{statement}
 use Rattle.message_write.proofs.write_message.Tie as tie
@@ -95,7 +97,7 @@ returns-4 c =
     let s = i .before .before in
     let a = s .before .before .before .args in
     write-all 32 (a .list .now) (a .message .now) _ (s .check-list .ensures) (i .if1 .left) _ (z .prefixes-size .ensures) (r .if2 .left) (t .if3 .left) _ (h .put-head .ensures)
-    _ _ _ (p .put-prefixes .ensures) (n .put-number .ensures) (c .accepted .ensures)
+    _ _ _ (p .put-prefixes .ensures) (n .put-number .ensures ∙ number-fits _ _ 2 _ (omega arith) (search needs)) (c .accepted .ensures)
 
 pub write-message-spec : {M : Type 1} → statement M
 write-message-spec =

@@ -1,76 +1,40 @@
-use Prim.Native.Nat.{_-_, _≤_}
 use native.Mathlib.Omega.{arith}
+use mathlib.Core.Path.{refl, subst}
+use Prim.Native.Nat.{ℕ}
 use borrow.Author.Needs.{needs}
-use Rattle.octets.specs.Needs.{NumberAt}
-use Rattle.octets.proofs.Numbers.{number-none, number-more, number-room}
-use mathlib.Core.Path.{_≡_}
+use Rattle.octets.specs.Needs.{fourOf, NumberAt}
+use Rattle.octets.proofs.Numbers.{number-cut, number-past}
 use Rattle.octets.proofs.number_at.Statement.{statement}
 use Rattle.octets.proofs.number_at.Tie as tie
 
-abbrev Inv-loop : tie.InvT-loop
-Inv-loop bytes from k sum₀ j₀ sum j = (j ≤ k) × NumberAt bytes from j sum
-
-abbrev μ-loop : tie.MeasureT-loop
-μ-loop bytes from k sum₀ j₀ sum j = k - j
-
-loop-holds : tie.Need-loop-holds Inv-loop μ-loop
-loop-holds c =
-    let a = c .before .args in
-    (omega arith, number-none (a .bytes .now) (a .from))
-
-mul-sum : tie.Need-mul-sum Inv-loop μ-loop
-mul-sum c =
-    let l = c .before .loop in
-    let a = c .before .before .before .args in
-    omega (arith, number-room (a .bytes .now) (a .from) (l .j) (l .sum) (omega arith) (l .inv .1))
-
-add-wide : tie.Need-add-wide Inv-loop μ-loop
-add-wide c = omega arith
-
-shared-slice-read-wide : tie.Need-shared-slice-read-wide Inv-loop μ-loop
-shared-slice-read-wide c = omega arith
-
-wide-requires : tie.Need-wide-requires Inv-loop μ-loop
-wide-requires c κs = search needs
-
-add-sum : tie.Need-add-sum Inv-loop μ-loop
-add-sum c =
-    let l = c .before .before .before .loop in
-    let a = c .before .before .before .before .before .args in
-    omega (arith, number-room (a .bytes .now) (a .from) (l .j) (l .sum) (omega arith) (l .inv .1), c .wide .ensures .small)
-
-add-j : tie.Need-add-j Inv-loop μ-loop
-add-j c = omega arith
-
-loop-less : tie.Need-loop-less Inv-loop μ-loop
-loop-less c = omega arith
-
-loop-again : tie.Need-loop-again Inv-loop μ-loop
-loop-again c =
-    let l = c .before .before .before .loop in
-    let a = c .before .before .before .before .before .args in
-    (omega arith, number-more (a .bytes .now) (a .from) (l .j) (l .sum) _ (omega arith) (l .inv .1) (c .wide .ensures))
-
-returns : tie.Need-returns Inv-loop μ-loop
+returns : tie.Need-returns
 returns c =
-    let l = c .before .loop in
-    let a = c .before .before .before .args in
-    let e : l .j ≡ a .k = omega arith in
-    rw e at (l .inv .1)
+    let a = c .before .before .args in
+    number-past (a .bytes .now) (a .from) (fourOf (a .k)) (c .if1 .taken)
+
+sub-left : tie.Need-sub-left
+sub-left c = search needs
+
+four-of-requires : tie.Need-four-of-requires
+four-of-requires c κs = search needs
+
+number-of-requires : tie.Need-number-of-requires
+number-of-requires c κs = search needs
+
+returns-2 : tie.Need-returns-2
+returns-2 c =
+    let a = c .before .before .before .before .before .args in
+    number-cut (a .bytes .now) (a .from) (fourOf (a .k)) _ _ refl (omega (arith, c .before .if2 .taken, c .before .before .four-of .ensures .0)) (c .number-of .ensures)
+
+number-of-requires-2 : tie.Need-number-of-requires-2
+number-of-requires-2 c κs = search needs
+
+returns-3 : tie.Need-returns-3
+returns-3 c =
+    let a = c .before .before .before .before .before .args in
+    subst (λ (k : ℕ). NumberAt (a .bytes .now) (a .from) k (c .number-of2 .result)) (c .before .before .four-of .ensures .0) (c .number-of2 .ensures)
 
 pub number-at-spec : {M : Type 1} → statement M
 number-at-spec =
     tie.close
-    (tie.spec
-    Inv-loop
-    μ-loop
-    loop-holds
-    mul-sum
-    add-wide
-    shared-slice-read-wide
-    wide-requires
-    add-sum
-    add-j
-    loop-less
-    loop-again
-    returns)
+    (tie.spec returns sub-left four-of-requires number-of-requires returns-2 number-of-requires-2 returns-3)

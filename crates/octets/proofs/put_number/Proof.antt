@@ -1,80 +1,51 @@
-use Prim.Native.Nat.{_-_}
-use mathlib.Core.Path.{refl}
+use mathlib.Core.Path.{sym, _∙_}
 use native.Mathlib.Omega.{arith}
+use denote.Ref.{now}
+use Rattle.octets.proofs.Store.{number-over, number-stored}
 use borrow.Author.Needs.{needs}
-use Rattle.octets.proofs.Store.{Digits, digits-none, digits-more, digits-all}
 use Rattle.octets.proofs.put_number.Statement.{statement}
 use Rattle.octets.proofs.put_number.Tie as tie
 
-abbrev Inv-loop : tie.InvT-loop
-Inv-loop bytes₀ at k x j₀ bytes j = Digits bytes₀ at k x bytes j
+four-of-requires : tie.Need-four-of-requires
+four-of-requires c κs = search needs
 
-abbrev μ-loop : tie.MeasureT-loop
-μ-loop bytes₀ at k x j₀ bytes j = k - j
-
-loop-holds : tie.Need-loop-holds Inv-loop μ-loop
-loop-holds c = digits-none (c .args .bytes .now) (c .args .at) (c .args .k) (c .args .x)
-
-sub-gap : tie.Need-sub-gap Inv-loop μ-loop
-sub-gap c = omega arith
-
-sub-gap-2 : tie.Need-sub-gap-2 Inv-loop μ-loop
-sub-gap-2 c = omega arith
-
-mul-gap : tie.Need-mul-gap Inv-loop μ-loop
-mul-gap c = omega arith
-
-shr-bytes : tie.Need-shr-bytes Inv-loop μ-loop
-shr-bytes c = omega arith
-
-cast-bytes : tie.Need-cast-bytes Inv-loop μ-loop
-cast-bytes c = search needs
-
-add-bytes : tie.Need-add-bytes Inv-loop μ-loop
-add-bytes c = omega arith
-
-slice-write-bytes : tie.Need-slice-write-bytes Inv-loop μ-loop
-slice-write-bytes c = omega (arith, c .before .loop .inv .same)
-
-add-j : tie.Need-add-j Inv-loop μ-loop
-add-j c = omega arith
-
-loop-less : tie.Need-loop-less Inv-loop μ-loop
-loop-less c = omega arith
-
-loop-again : tie.Need-loop-again Inv-loop μ-loop
-loop-again c =
-    let l = c .before in
-    let s = l .before in
-    let a = s .args in
-    digits-more (a .bytes .now) (a .at) (a .k) (a .x) (s .pre .0) (l .loop .bytes) (l .loop .j) (l .loop .inv) (c .loop-test .taken) _ refl
-
-same-length : tie.Need-same-length Inv-loop μ-loop
-same-length c = c .before .loop .inv .same
-
-returns : tie.Need-returns Inv-loop μ-loop
+returns : tie.Need-returns
 returns c =
-    let l = c .before in
-    let s = l .before in
-    let a = s .args in
-    digits-all (a .bytes .now) (a .at) (a .k) (a .x) (s .pre .0) (l .loop .bytes) (l .loop .j) (l .loop .inv) (c .loop-test .left)
+    let f = c .before in
+    let a = f .before .before .args in
+    sym (number-over (now (a .bytes)) (a .at) (a .k) (a .x) _ (f .four-of .ensures .0) (omega (arith, c .if1 .taken)))
+
+sub-if2 : tie.Need-sub-if2
+sub-if2 c = search needs
+
+returns-2 : tie.Need-returns-2
+returns-2 c =
+    let f = c .before .before in
+    let a = f .before .before .args in
+    sym (number-over (now (a .bytes)) (a .at) (a .k) (a .x) _ (f .four-of .ensures .0) (omega (arith, c .before .if1 .left, c .if2 .taken)))
+
+store-number-requires : tie.Need-store-number-requires
+store-number-requires c κs = search needs
+
+same-length : tie.Need-same-length
+same-length c = search needs
+
+returns-3 : tie.Need-returns-3
+returns-3 c =
+    let s = c .before .before in
+    let f = s .before .before .before .before in
+    let a = f .before .before .args in
+    s .store-number .ensures
+    ∙ sym (number-stored (now (a .bytes)) (a .at) (a .k) (a .x) _ (f .four-of .ensures .0) (omega (arith, s .before .before .before .if1 .left, s .before .before .if2 .left)))
 
 pub put-number-spec : {M : Type 1} → statement M
 put-number-spec =
     tie.close
     (tie.spec
-    Inv-loop
-    μ-loop
-    loop-holds
-    sub-gap
-    sub-gap-2
-    mul-gap
-    shr-bytes
-    cast-bytes
-    add-bytes
-    slice-write-bytes
-    add-j
-    loop-less
-    loop-again
+    four-of-requires
+    returns
+    sub-if2
+    returns-2
+    store-number-requires
     same-length
-    returns)
+    returns-3)

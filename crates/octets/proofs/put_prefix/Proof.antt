@@ -1,51 +1,57 @@
-use borrow.Author.Needs.{needs}
+use mathlib.Core.Path.{sym, _∙_}
 use native.Mathlib.Omega.{arith}
-use Rattle.octets.proofs.Store.{prefix-stored}
+use denote.Ref.{now}
+use Rattle.octets.proofs.Store.{prefix-long, prefix-over, prefix-fits}
+use borrow.Author.Needs.{needs}
 use Rattle.octets.proofs.put_prefix.Statement.{statement}
 use Rattle.octets.proofs.put_prefix.Tie as tie
 
-prefix-bytes-requires : tie.Need-prefix-bytes-requires
-prefix-bytes-requires c κs = search needs
+returns : tie.Need-returns
+returns c =
+    let a = c .before .before .args in
+    sym (prefix-long 32 (now (a .bytes)) (a .at) (a .value) (a .len) (c .if1 .taken))
 
-mul-gap : tie.Need-mul-gap
-mul-gap c = search needs
+prefix-size-requires : tie.Need-prefix-size-requires
+prefix-size-requires c κs = search needs
 
-sub-gap : tie.Need-sub-gap
-sub-gap c = search needs
+returns-2 : tie.Need-returns-2
+returns-2 c =
+    let k = c .before in
+    let a = k .before .before .before .args in
+    sym (prefix-over 32 (now (a .bytes)) (a .at) (a .value) (a .len) (k .before .if1 .left) (omega (arith, k .prefix-size .ensures .is, c .if2 .taken)))
 
-put-number-requires : tie.Need-put-number-requires
-put-number-requires c κs = search needs
+sub-if3 : tie.Need-sub-if3
+sub-if3 c = search needs
 
-add-put-number : tie.Need-add-put-number
-add-put-number c = search needs
+returns-3 : tie.Need-returns-3
+returns-3 c =
+    let k = c .before .before in
+    let a = k .before .before .before .args in
+    sym (prefix-over 32 (now (a .bytes)) (a .at) (a .value) (a .len) (k .before .if1 .left) (omega (arith, k .prefix-size .ensures .is, c .before .if2 .left, c .if3 .taken)))
 
-shr-put-number : tie.Need-shr-put-number
-shr-put-number c = search needs
-
-put-number-requires-2 : tie.Need-put-number-requires-2
-put-number-requires-2 c κs = search needs
+store-prefix-requires : tie.Need-store-prefix-requires
+store-prefix-requires c κs = search needs
 
 same-length : tie.Need-same-length
 same-length c = search needs
 
-returns : tie.Need-returns
-returns c =
-    let p2 = c .before .before in
-    let p1 = p2 .before .before .before .before in
-    let k = p1 .before .before in
-    let s = k .before .before in
-    prefix-stored 32 (s .args .bytes .now) _ _ (s .args .at) _ (s .args .value) (s .args .len) (omega (arith, s .pre .1)) (k .prefix-bytes .ensures .is) (s .pre .0) (p1 .put-number .ensures) (p2 .put-number2 .ensures)
+returns-4 : tie.Need-returns-4
+returns-4 c =
+    let s = c .before .before in
+    let k = s .before .before .before .before in
+    let a = k .before .before .before .args in
+    s .store-prefix .ensures
+    ∙ sym (prefix-fits 32 (now (a .bytes)) (a .at) (a .value) (a .len) (k .before .if1 .left) (omega (arith, k .prefix-size .ensures .is, s .before .before .before .if2 .left, s .before .before .if3 .left)))
 
 pub put-prefix-spec : {M : Type 1} → statement M
 put-prefix-spec =
     tie.close
     (tie.spec
-    prefix-bytes-requires
-    mul-gap
-    sub-gap
-    put-number-requires
-    add-put-number
-    shr-put-number
-    put-number-requires-2
+    returns
+    prefix-size-requires
+    returns-2
+    sub-if3
+    returns-3
+    store-prefix-requires
     same-length
-    returns)
+    returns-4)

@@ -24,15 +24,15 @@ value-is bytes from len k x is fits n =
 add-if1 : tie.Need-add-if1
 add-if1 c = search needs
 
-number-at-requires : tie.Need-number-at-requires
-number-at-requires c κs = search needs
+number-of-requires : tie.Need-number-of-requires
+number-of-requires c κs = search needs
 
 clear-past-requires : tie.Need-clear-past-requires
 clear-past-requires c κs = search needs
 
 returns : tie.Need-returns
 returns c =
-    let n = c .before .number-at in
+    let n = c .before .number-of in
     let s = c .before .before .before in
     let a = s .before .args in
     c .clear-past .ensures
@@ -42,8 +42,8 @@ returns c =
 prefix-bytes-requires : tie.Need-prefix-bytes-requires
 prefix-bytes-requires c κs = search needs
 
-number-at-requires-2 : tie.Need-number-at-requires-2
-number-at-requires-2 c κs = search needs
+number-of-requires-2 : tie.Need-number-of-requires-2
+number-of-requires-2 c κs = search needs
 
 mul-clear-past : tie.Need-mul-clear-past
 mul-clear-past c = search needs
@@ -59,11 +59,11 @@ clear-past-requires-2 c κs =
     let k = c .before .prefix-bytes in
     let s = c .before .before .before .before in
     let a = s .args in
-    (value-is (a .bytes .now) (a .from) (a .len) (k .result) (c .number-at2 .result) (k .ensures .is) (omega (arith, k .ensures .is, s .pre .1)) (c .number-at2 .ensures) .1, s .pre .1)
+    (value-is (a .bytes .now) (a .from) (a .len) (k .result) (c .number-of2 .result) (k .ensures .is) (omega (arith, k .ensures .is, s .pre .1)) (c .number-of2 .ensures) .1, s .pre .1)
 
 returns-2 : tie.Need-returns-2
 returns-2 c =
-    let n = c .before .number-at2 in
+    let n = c .before .number-of2 in
     let k = c .before .before .prefix-bytes in
     let s = c .before .before .before .before .before in
     let a = s .args in
@@ -75,11 +75,11 @@ value-from-spec =
     tie.close
     (tie.spec
     add-if1
-    number-at-requires
+    number-of-requires
     clear-past-requires
     returns
     prefix-bytes-requires
-    number-at-requires-2
+    number-of-requires-2
     mul-clear-past
     sub-clear-past
     shl-clear-past

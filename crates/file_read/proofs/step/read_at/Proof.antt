@@ -1,4 +1,4 @@
-use Rattle.file_read.proofs.StepReturns.{port-fits, read-is}
+use Rattle.file_read.proofs.StepReturns.{read-is}
 use borrow.Author.Needs.{needs}
 use Rattle.file_read.proofs.step.read_at.Statement.{statement}
 use Rattle.file_read.proofs.step.read_at.Tie as tie
@@ -16,10 +16,7 @@ add-port-from-2 : tie.Need-add-port-from-2
 add-port-from-2 c = search needs
 
 port-from-requires : tie.Need-port-from-requires
-port-from-requires c κs =
-    let q = c .before in
-    let a = q .before .before .args in
-    port-fits 32 (a .file .now) (a .at) _ _ (q .prefix-at .ensures) (c .prefix-bytes .ensures .is) (q .before .before .pre)
+port-from-requires c κs = search needs
 
 returns : tie.Need-returns
 returns c =

@@ -20,8 +20,9 @@ use Rattle.segment_rules.specs.Packed.{blockSize}
 use Rattle.segment_rules.specs.Tables.{hasLast, lastBlock, lastStore}
 use Rattle.segment_rules.proofs.Ports.{blocks-le}
 use Rattle.segment_rules.proofs.Stores.{last-each}
-use Rattle.segment_build.specs.RunSearch.{portFrom}
-use Rattle.segment_build.specs.Needs.{isNew, Passed, Resumes, PutLast, LastRoom}
+use Rattle.segment_ports.specs.RunSearch.{portFrom}
+use Rattle.segment_ports.specs.Needs.{Resumes}
+use Rattle.segment_build.specs.Needs.{isNew, Passed, PutLast, LastRoom}
 use Rattle.segment_build.proofs.Passes.{passed-none, passed-on, passed-new, from-next, new-longer, none-before-new, none-after}
 use Rattle.segment_build.proofs.Naming.{number-to}
 use Rattle.segment_build.proofs.Storing.{gathered-to, block-room, block-more}

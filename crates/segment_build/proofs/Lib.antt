@@ -1,6 +1,4 @@
 -- Laws of the build of segment tables.
-pub mod Runs
-pub mod Fills
 pub mod Passes
 pub mod Naming
 pub mod Walking

@@ -3,20 +3,24 @@
 use mathlib.Core.Path.{_≡_, sym, ap, ap₂, _∙_}
 use mathlib.Core.Bool.{true}
 use mathlib.Core.List.{List, _++_, append-assoc}
-use Prim.Native.Nat.{ℕ, _+_, _-_, _*_, _^_, _≤_}
+use Prim.Native.Nat.{ℕ, _+_, _-_, _*_, _^_, _≤_, _<_}
 use native.Mathlib.Omega.{arith}
 use native.Mathlib.Nat.{mul-one}
 use lib.ListN.{length, getD, take, drop, length-drop}
 use lib.Seq.{sets, sets-eq, drop-drop, length-take-le}
 use borrow.Author.Tests.{eq-eqb}
 use borrow.Rule.Slice.PartMut.{putMid}
+use Rattle.promise.specs.Over.{outcome}
 use Rattle.lists.specs.Numbered.{listOf}
 use Rattle.lists.proofs.Numbered.{length-list-of, list-of-same}
 use Rattle.segment_rules.specs.Packed.{blockSize, packedSize, isPacked, packedBlock}
 use Rattle.segment_rules.proofs.Ranks.{length-packed-block}
 use Rattle.segment_pack.specs.Pack.{packInto, copyInto}
-use Rattle.segment_build.specs.RunSearch.{portFrom}
-use Rattle.segment_build.specs.Needs.{Ported, PutLast}
+use Rattle.segment_ports.specs.RunSearch.{portFrom}
+use Rattle.segment_ports.specs.Ports.{portsInto}
+use Rattle.segment_ports.specs.Needs.{Blocks, Ported}
+use Rattle.segment_ports.proofs.Ported.{ported}
+use Rattle.segment_build.specs.Needs.{PutLast}
 
 -- the part that is lent on
 abbrev part : List ℕ → ℕ → ℕ → List ℕ
@@ -52,21 +56,28 @@ module _ (store : List ℕ) (at : ℕ) where
       e ∙ rw (eq-eqb (length (part store at blockSize)) blockSize (length-part store at blockSize room)) in
       part-back store at blockSize room left (ap length is ∙ length-list-of (λ i. getD entries i 0) 256 0) ∙ ap (sets store at) is
 
-  pub ports-back : (runs left : List ℕ) (from block size shift next : ℕ) → at + size ≤ length store
-      → Ported runs from block (length (part store at size)) shift next left
-      → putMid at (at + size - at) store left ≡ sets store at (listOf (λ b. portFrom runs from (b * 2 ^ shift)) size block)
-  ports-back runs left from block size shift next room p =
-      let is : left ≡ listOf (λ b. portFrom runs from (b * 2 ^ shift)) size block =
-      p .entries ∙ ap (λ (k : ℕ). listOf (λ b. portFrom runs from (b * 2 ^ shift)) k block) (length-part store at size room) in
-      part-back store at size room left (ap length is ∙ length-list-of (λ b. portFrom runs from (b * 2 ^ shift)) size block) ∙ ap (sets store at) is
+  -- ports of blocks that lie within the addresses
+  module _ (runs left : List ℕ) (from block size shift next : ℕ) (room : at + size ≤ length store) (ok : Blocks block size shift)
+      (e : outcome next left ≡ portsInto runs from block shift (part store at size)) where
+    part-ported : Ported runs from block size shift next left
+    part-ported =
+        let l = length-part store at size room in
+        rw l at (ported runs (part store at size) from block shift next left (rw l ok) e)
 
-  pub last-back : (runs left : List ℕ) (from y number next : ℕ) → at ≡ number * blockSize → at + blockSize ≤ length store
-      → Ported runs from (y * blockSize) (length (part store at blockSize)) 0 next left
+    pub ports-back : putMid at (at + size - at) store left ≡ sets store at (listOf (λ b. portFrom runs from (b * 2 ^ shift)) size block)
+    ports-back =
+        let is = part-ported .entries in
+        part-back store at size room left (ap length is ∙ length-list-of (λ b. portFrom runs from (b * 2 ^ shift)) size block) ∙ ap (sets store at) is
+
+  pub last-back : (runs left : List ℕ) (from y number next : ℕ) → at ≡ number * blockSize → at + blockSize ≤ length store → y < 2 ^ 24
+      → outcome next left ≡ portsInto runs from (y * blockSize) 0 (part store at blockSize)
       → PutLast runs from y next store number (putMid at (at + blockSize - at) store left)
-  last-back runs left from y number next e room p = record {
-    written =
-        ports-back runs left from (y * blockSize) blockSize 0 next room p
-        ∙ ap₂ (λ (k : ℕ) (xs : List ℕ). sets store k xs) e
-        (list-of-same (λ b. portFrom runs from (b * 2 ^ 0)) (λ b. portFrom runs from b) 256 (y * blockSize) (λ b u v. ap (portFrom runs from) (mul-one b)));
-    resumes = λ a h. p .resumes a (omega (arith, length-part store at blockSize room));
-  }
+  last-back runs left from y number next e room low p =
+      let ok : Blocks (y * blockSize) blockSize 0 = record { small = omega arith; few = omega arith; within = omega arith } in
+      record {
+        written =
+            ports-back runs left from (y * blockSize) blockSize 0 next room ok p
+            ∙ ap₂ (λ (k : ℕ) (xs : List ℕ). sets store k xs) e
+            (list-of-same (λ b. portFrom runs from (b * 2 ^ 0)) (λ b. portFrom runs from b) 256 (y * blockSize) (λ b u v. ap (portFrom runs from) (mul-one b)));
+        resumes = λ a h. part-ported runs left from (y * blockSize) blockSize 0 next room ok p .resumes a (omega arith);
+      }

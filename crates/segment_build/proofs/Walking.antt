@@ -18,11 +18,12 @@ use Rattle.segment_rules.specs.Packed.{blockSize, isPacked}
 use Rattle.segment_rules.specs.Tables.{hasLast, hasSegment, segment, hasPacked, hasPlain}
 use Rattle.segment_rules.proofs.Ports.{longer→route, route→longer}
 use Rattle.segment_rules.proofs.Stores.{packed-of, plain-of, neither-of, numbers-fit}
+use Rattle.segment_ports.specs.RunSearch.{portFrom}
+use Rattle.segment_ports.specs.Needs.{Resumes, Blocks, Ported}
 use Rattle.segment_build.specs.declared.segments.Walk.{Walk}
 use Rattle.segment_build.specs.declared.segments.Segment.{Segment}
-use Rattle.segment_build.specs.RunSearch.{portFrom}
 use Rattle.segment_build.specs.Walks.{walk, walkAfter}
-use Rattle.segment_build.specs.Needs.{isNew, Passed, Resumes, Ported, Blocks, Ready, Begun, Pointed, Walked, Met, SegmentMet, Counted}
+use Rattle.segment_build.specs.Needs.{isNew, Passed, Ready, Begun, Pointed, Walked, Met, SegmentMet, Counted}
 use Rattle.segment_build.proofs.Passes.{blocks-rise, passed-none, passed-on, passed-new, from-next, new-longer, none-before-new, none-after}
 use Rattle.segment_build.proofs.Naming.{number-to}
 

@@ -32,9 +32,9 @@ use Rattle.segment_rules.specs.Build.{Stores, stores, Left, left, refusedBuild,
 use Rattle.segment_rules.proofs.AfterBuild.{build-into}
 use Rattle.segment_rules.proofs.Stores.{length-first, length-packed-store, length-plain-store, length-last-store}
 use Rattle.segment_build.specs.declared.segments.Walk.{Walk}
-use Rattle.segment_build.specs.RunSearch.{portFrom}
+use Rattle.segment_ports.specs.RunSearch.{portFrom}
+use Rattle.segment_ports.proofs.Runs.{listing-port}
 use Rattle.segment_build.specs.Needs.{Ready, Counted, SegmentsRoom, FilledSegments, LastRoom, TablesRoom}
-use Rattle.segment_build.proofs.Runs.{listing-port}
 
 -- what is written over a table of the same length
 over-over : (xs ys lent : List ℕ) → length xs ≡ length ys → over xs (over ys lent) ≡ over xs lent

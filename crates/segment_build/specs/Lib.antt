@@ -1,4 +1,3 @@
 -- The build of segment tables, and what its functions ask of each other.
-pub mod RunSearch
 pub mod Walks
 pub mod Needs

@@ -2,7 +2,7 @@
 use mathlib.Core.Path.{_≡_}
 use mathlib.Core.Bool.{Bool, true, false, cond, _&&_}
 use mathlib.Core.List.{List}
-use Prim.Native.Nat.{ℕ, _+_, _-_, _*_, _^_, _≤_, _<_}
+use Prim.Native.Nat.{ℕ, _+_, _*_, _^_, _≤_, _<_}
 use lib.Dec.{leb, ltb}
 use lib.ListN.{length, getD, set}
 use lib.Seq.{sets}
@@ -17,24 +17,10 @@ use Rattle.segment_rules.specs.Blocks.{portAt}
 use Rattle.segment_rules.specs.Packed.{blockSize, packedSize, isPacked, packedBlock}
 use Rattle.segment_rules.specs.Tables.{pointer, plainPointer, firstSize, hasLast, hasSegment, segment, hasPacked, hasPlain, segmentPointer, firstTable, packedStore, plainStore}
 use Rattle.segment_rules.specs.Build.{Stores}
-use Rattle.segment_build.specs.RunSearch.{portFrom}
+use Rattle.segment_ports.specs.RunSearch.{portFrom}
+use Rattle.segment_ports.specs.Needs.{Resumes}
 use Rattle.segment_build.specs.declared.segments.Walk.{Walk}
 use Rattle.segment_build.specs.declared.segments.Segment.{Segment}
-
--- the runs from c on tell the port of every address from one on as those from `from` on do
-abbrev pub Resumes : List ℕ → ℕ → ℕ → ℕ → Type 0
-Resumes runs from c at = (a : ℕ) → at ≤ a → portFrom runs from a ≡ portFrom runs c a
-
--- the blocks of 2^shift addresses from number `block` on, as many as there are entries, lie below 2^32
-pub record Blocks (block size shift : ℕ) : Type 0 where
-  pub small : shift ≤ 16
-  pub few : block + size ≤ 2 ^ 32
-  pub within : (block + size) * 2 ^ shift ≤ 2 ^ 32
-
--- each entry is the port of its block's first address, and where the search of a later address may resume
-pub record Ported (runs : List ℕ) (from block size shift next : ℕ) (left : List ℕ) : Type 0 where
-  pub entries : left ≡ listOf (λ b. portFrom runs from (b * 2 ^ shift)) size block
-  pub resumes : Resumes runs from next ((block + size) * 2 ^ shift)
 
 -- route r begins with a block of l bits that is `next` or later, and is longer: it is the first of that block's routes to be met
 abbrev pub isNew : ℕ → ℕ → Route → ℕ → Bool

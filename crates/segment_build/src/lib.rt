@@ -24,7 +24,6 @@ use segments::count_segments;
 use stores::write_tables;
 
 mod blocks;
-mod ports;
 mod segments;
 mod stores;
 

@@ -6,9 +6,9 @@ ghost use Rattle.segment_build.specs.Walks.{walkAfter};
 ghost use Rattle.segment_build.specs.Needs.{Ready, Begun, Pointed, Met, SegmentMet, Counted};
 use crate::blocks::begins_new;
 use crate::blocks::block_of;
-use crate::ports::fill_ports;
 use routes::route_at;
 use segment_pack::is_packed;
+use segment_ports::fill_ports;
 use segment_rules::BLOCK_SIZE;
 use segment_rules::POINTER;
 

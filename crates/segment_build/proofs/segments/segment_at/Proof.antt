@@ -1,5 +1,6 @@
 use mathlib.Core.Path.{refl}
 use native.Mathlib.Omega.{arith}
+use Rattle.segment_ports.proofs.Ported.{ported}
 use Rattle.segment_build.proofs.Walking.{walked-few, x-low, blocks-of, begun, segment-met}
 use borrow.Author.Needs.{needs}
 use Rattle.segment_build.proofs.segments.segment_at.Statement.{statement}
@@ -12,10 +13,10 @@ mul-fill-ports : tie.Need-mul-fill-ports
 mul-fill-ports c = omega (arith, x-low _ _ _ _ _ _ (c .before .before .before .pre))
 
 fill-ports-requires : tie.Need-fill-ports-requires
-fill-ports-requires c κs = blocks-of _ _ _ _ _ _ (c .before .before .before .pre)
+fill-ports-requires c κs = search needs
 
 name-lasts-requires : tie.Need-name-lasts-requires
-name-lasts-requires c κs = begun _ _ _ _ _ _ (c .before .before .before .before .before .before .pre) _ _ (c .before .before .fill-ports .ensures)
+name-lasts-requires c κs = begun _ _ _ _ _ _ (c .before .before .before .before .before .before .pre) _ _ (ported _ _ _ _ _ _ _ (blocks-of _ _ _ _ _ _ (c .before .before .before .before .before .before .pre)) (c .before .before .fill-ports .ensures))
 
 is-packed-requires : tie.Need-is-packed-requires
 is-packed-requires c κs = search needs
@@ -27,7 +28,7 @@ walk-after-requires c κs =
     (x-low _ _ _ _ _ _ (c .before .before .before .before .before .before .before .before .before .pre), omega (arith, few .0), omega (arith, few .1))
 
 returns : tie.Need-returns
-returns c = segment-met _ _ _ _ _ _ (c .before .before .before .before .before .before .before .before .before .before .pre) _ _ (c .before .before .before .before .before .before .fill-ports .ensures) _ _ (c .before .before .before .name-lasts .ensures) _ (c .before .is-packed .ensures) _ refl refl (c .walk-after .ensures)
+returns c = segment-met _ _ _ _ _ _ (c .before .before .before .before .before .before .before .before .before .before .pre) _ _ (ported _ _ _ _ _ _ _ (blocks-of _ _ _ _ _ _ (c .before .before .before .before .before .before .before .before .before .before .pre)) (c .before .before .before .before .before .before .fill-ports .ensures)) _ _ (c .before .before .before .name-lasts .ensures) _ (c .before .is-packed .ensures) _ refl refl (c .walk-after .ensures)
 
 pub segment-at-spec : {M : Type 1} → statement M
 segment-at-spec =

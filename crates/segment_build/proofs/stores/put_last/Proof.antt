@@ -32,7 +32,7 @@ same-length : tie.Need-same-length
 same-length c = search needs
 
 returns : tie.Need-returns
-returns c = last-back _ _ _ _ _ _ _ _ refl (c .before .before .before .before .before .before .pre .0) (c .before .before .fill-ports .ensures)
+returns c = last-back _ _ _ _ _ _ _ _ refl (c .before .before .before .before .before .before .pre .0) (c .before .before .before .before .before .before .pre .1) (c .before .before .fill-ports .ensures)
 
 pub put-last-spec : {M : Type 1} → statement M
 put-last-spec =

@@ -2,22 +2,23 @@
 use mathlib.Core.Path.{_≡_, refl, sym, ap, ap₂, _∙_}
 use mathlib.Core.Bool.{Bool, true, false, cond}
 use mathlib.Core.List.{List, _++_, append-nil}
-use Prim.Native.Nat.{ℕ, _+_, _-_, _*_, _/_, _^_, _≤_, _<_}
+use Prim.Native.Nat.{ℕ, zero, suc, _+_, _-_, _*_, _/_, _^_, _≤_, _<_}
 use native.Mathlib.Omega.{arith}
 use native.Mathlib.Nat.{mul-le-mul-right, suc-mul, le-div-iff-mul-le}
 use lib.Dec.{leb}
 use lib.Pow.{pow-pos}
 use lib.ListN.{length, replicate, drop-of-length-le}
 use borrow.Author.Tests.{leb-true, leb-false}
-use Rattle.promise.specs.Over.{over}
+use Rattle.promise.specs.Over.{outcome, over}
 use Rattle.promise.proofs.Over.{length-over}
 use Rattle.lists.specs.Numbered.{listOf}
 use Rattle.lists.proofs.Numbered.{list-of-append, list-of-one, length-list-of}
 use Rattle.entries.specs.Entries.{filled}
 use Rattle.entries.proofs.Filled.{filled-over}
-use Rattle.segment_build.specs.RunSearch.{runEnd, runPort, runOf, pastOf, portFrom}
-use Rattle.segment_build.specs.Needs.{Resumes, Blocks, Ported}
-use Rattle.segment_build.proofs.Runs.{run-of-here, run-of-reaches, run-of-resumed}
+use Rattle.segment_ports.specs.RunSearch.{runEnd, runPort, runOf, pastOf, portFrom}
+use Rattle.segment_ports.specs.Ports.{runAfter, portsFrom}
+use Rattle.segment_ports.specs.Needs.{Blocks}
+use Rattle.segment_ports.proofs.Runs.{run-of-here, run-of-reaches, run-of-resumed}
 
 module _ (runs : List ℕ) (c block shift size at : ℕ) where
   abbrev lastBlock : ℕ
@@ -46,40 +47,46 @@ module _ (runs : List ℕ) (c block shift size at : ℕ) where
       go true t h = omega (arith, leb-true (block + size) lastBlock t)
       go false t h = omega arith
 
--- one run more: its entries, and where a later search may resume
-module _ (runs lent : List ℕ) (from block shift k run past : ℕ) (resumes : Resumes runs from run ((block + k) * 2 ^ shift)) where
+-- where the run of a later block may be sought
+module _ (runs : List ℕ) (from block shift : ℕ) where
+  pub after-resumes : (k a : ℕ) → (block + k) * 2 ^ shift ≤ a → runOf runs from a ≡ runOf runs (runAfter runs from block shift k) a
+  unfolding runAfter
+  after-resumes zero a h = refl
+  after-resumes (suc k) a h =
+      let l : block + k ≤ block + suc k = omega arith in
+      run-of-resumed runs from ((block + k) * 2 ^ shift) a (omega (arith, mul-le-mul-right (2 ^ shift) l))
+
+-- one run more: its entries, and it is the run of the last of them
+module _ (runs lent : List ℕ) (from block shift k past : ℕ) where
   abbrev g : ℕ → ℕ
   g b = portFrom runs from (b * 2 ^ shift)
 
   abbrev found : ℕ
-  found = runOf runs run ((block + k) * 2 ^ shift)
+  found = runOf runs from ((block + k) * 2 ^ shift)
 
   abbrev Reached : Type 0
   Reached = (b : ℕ) → block + k ≤ b → b < block + past → b * 2 ^ shift ≤ runEnd runs found
 
-  later : (b : ℕ) → block + k ≤ b → (block + k) * 2 ^ shift ≤ b * 2 ^ shift
-  later b h = mul-le-mul-right (2 ^ shift) h
-
-  entry-is : Reached → (b : ℕ) → block + k ≤ b → b < block + past → g b ≡ runPort runs found
-  entry-is reached b h l =
-      resumes (b * 2 ^ shift) (later b h)
-      ∙ ap (runPort runs)
-      (run-of-resumed runs run ((block + k) * 2 ^ shift) (b * 2 ^ shift) (later b h) ∙ run-of-here runs found (b * 2 ^ shift) (reached b h l))
+  run-is : Reached → (b : ℕ) → block + k ≤ b → b < block + past → runOf runs from (b * 2 ^ shift) ≡ found
+  run-is reached b h l =
+      run-of-resumed runs from ((block + k) * 2 ^ shift) (b * 2 ^ shift) (mul-le-mul-right (2 ^ shift) h)
+      ∙ run-of-here runs found (b * 2 ^ shift) (reached b h l)
 
   pub fill-more : Reached → k ≤ past → past ≤ length lent
       → filled (over (listOf g k block) lent) k past (runPort runs found) ≡ over (listOf g past block) lent
   fill-more reached h l =
       let z : k + (past - k) ≡ past = omega arith in
       let rest : listOf g (past - k) (block + k) ≡ replicate (past - k) (runPort runs found) =
-      list-of-one g (runPort runs found) (past - k) (block + k) (λ b u v. entry-is reached b u (omega arith)) in
+      list-of-one g (runPort runs found) (past - k) (block + k) (λ b u v. ap (runPort runs) (run-is reached b u (omega arith))) in
       filled-over (listOf g k block) lent k past (runPort runs found) (length-list-of g k block) h l
       ∙ ap (λ (xs : List ℕ). over (listOf g k block ++ xs) lent) (sym rest)
       ∙ ap (λ (xs : List ℕ). over xs lent) (sym (list-of-append g k (past - k) block) ∙ ap (λ (m : ℕ). listOf g m block) z)
 
-  pub resume-more : k ≤ past → Resumes runs from found ((block + past) * 2 ^ shift)
-  resume-more h a l =
-      let m : (block + k) * 2 ^ shift ≤ (block + past) * 2 ^ shift = later (block + past) (omega arith) in
-      resumes a (omega arith) ∙ ap (runPort runs) (run-of-resumed runs run ((block + k) * 2 ^ shift) a (omega arith))
+  pub after-more : Reached → k < past → found ≡ runAfter runs from block shift past
+  unfolding runAfter
+  after-more reached h =
+      let z : past ≡ suc (past - 1) = omega arith in
+      rw z (sym (run-is reached (block + (past - 1)) (omega arith) (omega arith)))
 
 -- none, and all
 pub fill-none : (f : ℕ → ℕ) (lent : List ℕ) (block : ℕ) → lent ≡ over (listOf f 0 block) lent
@@ -95,14 +102,15 @@ fill-all f lent block size e =
 pub record FilledTo (runs lent : List ℕ) (from block shift size run k : ℕ) (entries : List ℕ) : Type 0 where
   pub few : k ≤ size
   pub so-far : entries ≡ over (listOf (λ b. portFrom runs from (b * 2 ^ shift)) k block) lent
-  pub resumes : Resumes runs from run ((block + k) * 2 ^ shift)
+  pub run-after : run ≡ runAfter runs from block shift k
 
 module _ (runs lent : List ℕ) (from block shift size : ℕ) (ok : Blocks block size shift) (sized : size ≡ length lent) where
   pub filled-none : FilledTo runs lent from block shift size from 0 lent
+  unfolding runAfter
   filled-none = record {
     few = omega arith;
     so-far = fill-none (λ b. portFrom runs from (b * 2 ^ shift)) lent block;
-    resumes = λ a h. refl;
+    run-after = refl;
   }
 
   -- blocks lie in the space
@@ -111,11 +119,13 @@ module _ (runs lent : List ℕ) (from block shift size : ℕ) (ok : Blocks block
 
   module _ {run k : ℕ} {entries : List ℕ} (st : FilledTo runs lent from block shift size run k entries) (more : k < size)
       (address next : ℕ) (first : address ≡ (block + k) * 2 ^ shift) (is : next ≡ runOf runs run address) where
-    next-is : next ≡ runOf runs run ((block + k) * 2 ^ shift)
-    next-is = is ∙ ap (runOf runs run) first
+    next-is : next ≡ runOf runs from ((block + k) * 2 ^ shift)
+    next-is =
+        is ∙ ap₂ (runOf runs) (st .run-after) first
+        ∙ sym (after-resumes runs from block shift k ((block + k) * 2 ^ shift) (omega arith))
 
     pub next-reaches : (block + k) * 2 ^ shift ≤ runEnd runs next
-    next-reaches = rw next-is (run-of-reaches runs run ((block + k) * 2 ^ shift) (block-lt (block + k) (omega arith)))
+    next-reaches = rw next-is (run-of-reaches runs from ((block + k) * 2 ^ shift) (block-lt (block + k) (omega arith)))
 
     pub from-block : block * 2 ^ shift ≤ runEnd runs next
     from-block =
@@ -134,11 +144,11 @@ module _ (runs lent : List ℕ) (from block shift size : ℕ) (ok : Blocks block
         few = bounds .1;
         so-far =
             e ∙ ap₂ (λ (xs : List ℕ) (v : ℕ). filled xs k past v) (st .so-far) (p ∙ ap (runPort runs) next-is)
-            ∙ fill-more runs lent from block shift k run past (st .resumes) reached (omega (arith, bounds .0)) (omega (arith, bounds .1));
-        resumes = rw next-is (resume-more runs lent from block shift k run past (st .resumes) (omega (arith, bounds .0)));
+            ∙ fill-more runs lent from block shift k past reached (omega (arith, bounds .0)) (omega (arith, bounds .1));
+        run-after = next-is ∙ after-more runs lent from block shift k past reached goes-on;
       }
         where
-          reached : (b : ℕ) → block + k ≤ b → b < block + past → b * 2 ^ shift ≤ runEnd runs (runOf runs run ((block + k) * 2 ^ shift))
+          reached : (b : ℕ) → block + k ≤ b → b < block + past → b * 2 ^ shift ≤ runEnd runs (runOf runs from ((block + k) * 2 ^ shift))
           reached b h l =
               rw next-is at (past-reached runs next block shift size b (omega arith) (omega (arith, past-is)))
 
@@ -149,11 +159,10 @@ module _ (runs lent : List ℕ) (from block shift size : ℕ) (ok : Blocks block
       (omega (arith, st .few, length-list-of (λ b. portFrom runs from (b * 2 ^ shift)) k block))
 
   pub filled-all : {run k : ℕ} {entries : List ℕ} → FilledTo runs lent from block shift size run k entries → size ≤ k
-      → Ported runs from block size shift run entries
+      → outcome run entries ≡ portsFrom runs from block shift size
   filled-all {run} {k} {entries} st h =
       let e : k ≡ size = omega (arith, st .few) in
-      record {
-        entries = st .so-far ∙ ap (λ (m : ℕ). over (listOf (λ b. portFrom runs from (b * 2 ^ shift)) m block) lent) e
-            ∙ fill-all (λ b. portFrom runs from (b * 2 ^ shift)) lent block size sized;
-        resumes = rw e at (st .resumes);
-      }
+      let left : entries ≡ listOf (λ b. portFrom runs from (b * 2 ^ shift)) size block =
+      st .so-far ∙ ap (λ (m : ℕ). over (listOf (λ b. portFrom runs from (b * 2 ^ shift)) m block) lent) e
+      ∙ fill-all (λ b. portFrom runs from (b * 2 ^ shift)) lent block size sized in
+      ap₂ outcome (st .run-after ∙ ap (runAfter runs from block shift) e) left

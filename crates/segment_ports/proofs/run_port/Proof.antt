@@ -1,8 +1,8 @@
 use borrow.Author.Tests.{lt-ltb, le-ltb}
-use Rattle.segment_build.specs.RunSearch.{runEnd}
+use Rattle.segment_ports.specs.RunSearch.{runPort}
 use borrow.Author.Needs.{needs}
-use Rattle.segment_build.proofs.ports.run_end.Statement.{statement}
-use Rattle.segment_build.proofs.ports.run_end.Tie as tie
+use Rattle.segment_ports.proofs.run_port.Statement.{statement}
+use Rattle.segment_ports.proofs.run_port.Tie as tie
 
 mul-result : tie.Need-mul-result
 mul-result c = search needs
@@ -16,15 +16,25 @@ mul-result-2 c = search needs
 shared-slice-read-result : tie.Need-shared-slice-read-result
 shared-slice-read-result c = search needs
 
+cast-result : tie.Need-cast-result
+cast-result c = search needs
+
 returns : tie.Need-returns
-unfolding runEnd
+unfolding runPort
 returns c = rw (lt-ltb _ _ (c .before .if1 .taken))
 
 returns-2 : tie.Need-returns-2
-unfolding runEnd
+unfolding runPort
 returns-2 c = rw (le-ltb _ _ (c .if1 .left))
 
-pub run-end-spec : {M : Type 1} → statement M
-run-end-spec =
+pub run-port-spec : {M : Type 1} → statement M
+run-port-spec =
     tie.close
-    (tie.spec mul-result add-result mul-result-2 shared-slice-read-result returns returns-2)
+    (tie.spec
+    mul-result
+    add-result
+    mul-result-2
+    shared-slice-read-result
+    cast-result
+    returns
+    returns-2)

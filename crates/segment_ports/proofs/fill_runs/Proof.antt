@@ -1,10 +1,10 @@
 use mathlib.Core.Path.{refl}
 use Prim.Native.Nat.{_-_}
 use native.Mathlib.Omega.{arith}
-use Rattle.segment_build.proofs.Fills.{FilledTo, filled-none, block-lt, from-block, goes-on, filled-more, filled-length, filled-all}
+use Rattle.segment_ports.proofs.Fills.{FilledTo, filled-none, block-lt, from-block, goes-on, filled-more, filled-length, filled-all}
 use borrow.Author.Needs.{needs}
-use Rattle.segment_build.proofs.ports.fill_ports.Statement.{statement}
-use Rattle.segment_build.proofs.ports.fill_ports.Tie as tie
+use Rattle.segment_ports.proofs.fill_runs.Statement.{statement}
+use Rattle.segment_ports.proofs.fill_runs.Tie as tie
 
 abbrev Inv-loop : tie.InvT-loop
 Inv-loop entries₀ runs from block shift size run₀ k₀ entries run k = FilledTo runs entries₀ from block shift size run k entries
@@ -59,8 +59,8 @@ returns c =
     let a = c .before .before .before .before .args in
     filled-all (a .runs .now) (a .entries .now) (a .from) (a .block) (a .shift) _ (c .before .before .before .before .pre) refl (c .before .loop .inv) (c .loop-test .left)
 
-pub fill-ports-spec : {M : Type 1} → statement M
-fill-ports-spec =
+pub fill-runs-spec : {M : Type 1} → statement M
+fill-runs-spec =
     tie.close
     (tie.spec
     Inv-loop

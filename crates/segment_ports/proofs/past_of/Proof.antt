@@ -3,10 +3,10 @@ use native.Mathlib.Nat.{le-div-iff-mul-le}
 use lib.Pow.{pow-pos}
 use native.Mathlib.Omega.{arith}
 use borrow.Author.Tests.{le-leb, lt-leb}
-use Rattle.segment_build.specs.RunSearch.{pastOf}
+use Rattle.segment_ports.specs.RunSearch.{pastOf}
 use borrow.Author.Needs.{needs}
-use Rattle.segment_build.proofs.ports.past_of.Statement.{statement}
-use Rattle.segment_build.proofs.ports.past_of.Tie as tie
+use Rattle.segment_ports.proofs.past_of.Statement.{statement}
+use Rattle.segment_ports.proofs.past_of.Tie as tie
 
 run-end-requires : tie.Need-run-end-requires
 run-end-requires c κs = search needs

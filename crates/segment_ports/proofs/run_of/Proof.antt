@@ -2,10 +2,10 @@ use mathlib.Core.Path.{_≡_, refl, sym, _∙_}
 use Prim.Native.Nat.{_-_, _<_}
 use native.Mathlib.Omega.{arith}
 use borrow.Author.Needs.{needs}
-use Rattle.segment_build.specs.RunSearch.{runCount, runEnd, runOf}
-use Rattle.segment_build.proofs.Runs.{ends-before, run-of-here, run-of-passed}
-use Rattle.segment_build.proofs.ports.run_of.Statement.{statement}
-use Rattle.segment_build.proofs.ports.run_of.Tie as tie
+use Rattle.segment_ports.specs.RunSearch.{runCount, runEnd, runOf}
+use Rattle.segment_ports.proofs.Runs.{ends-before, run-of-here, run-of-passed}
+use Rattle.segment_ports.proofs.run_of.Statement.{statement}
+use Rattle.segment_ports.proofs.run_of.Tie as tie
 
 abbrev Inv-loop : tie.InvT-loop
 Inv-loop runs from address run₀ run = runOf runs from address ≡ runOf runs run address

@@ -15,7 +15,7 @@ use Rattle.promise.proofs.Over.{length-over}
 use Rattle.lists.proofs.Tests.{way}
 use Rattle.runs_rules.specs.Runs.{Run, run, Lists, runSize, wordsOfRun, runWords}
 use Rattle.runs_rules.proofs.Listing.{length-run-words}
-use Rattle.segment_build.specs.RunSearch.{runCount, runEnd, runPort, runFrom, runOf, portFrom}
+use Rattle.segment_ports.specs.RunSearch.{runCount, runEnd, runPort, runFrom, runOf, portFrom}
 
 module _ (runs : List ℕ) where
   -- past the runs lent every address is reached

@@ -9,7 +9,7 @@ help:
 	@echo "make mft         build the program mft, for route files from the command line, and say where it is"
 	@echo "make install     put the archive, its header, a pkg-config file, mft and runs below PREFIX=/usr/local"
 	@echo "make fuzz        compare the library with the reference on fresh seeds for SECONDS=60"
-	@echo "make exhaustive  compare both tries and the segment tables with the run listing at all 2^32 addresses (35 minutes)"
+	@echo "make exhaustive  compare both tries and the segment tables with the run listing at all 2^32 addresses (15 to 35 minutes)"
 	@echo "make bench       measure the library against plain Rust and C, print a table, draw docs/speed.svg"
 	@echo "make bulk        race stride 4 with a plain trie over 4,000,000 addresses, print a table, draw docs/bulk.svg"
 	@echo "make runs        print the runs of examples/floor.routes, or of FILE=..."

@@ -13,7 +13,7 @@ use Rattle.bits.proofs.Prefix.{first-first, first-le}
 use Rattle.octets.specs.Bytes.{number, Bytes}
 use Rattle.octets.specs.Octets.{prefixBytes, valueFrom}
 use Rattle.octets.proofs.Bytes.{number-snoc, bytes-drop}
-use Rattle.octets.specs.Needs.{ByteIs, NumberAt}
+use Rattle.octets.specs.Gives.{ByteIs, NumberAt}
 
 module _ (bytes : List ℕ) (from : ℕ) where
   pub number-none : NumberAt bytes from 0 0

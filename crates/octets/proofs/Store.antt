@@ -1,9 +1,9 @@
 -- Bytes stored one after the other from an offset on. Assumes nothing.
 use mathlib.Core.Path.{_≡_, refl, sym, ap, ap₂, _∙_}
-use mathlib.Core.Bool.{Bool, cond}
 use mathlib.Core.List.{List, [], _∷_, _++_, append-assoc}
-use Prim.Native.Nat.{ℕ, zero, suc, _+_, _-_, _*_, _/_, _%_, _^_, _≤_, _<_}
+use Prim.Native.Nat.{ℕ, zero, suc, _+_, _-_, _*_, _/_, _%_, _^_, _≤_, _<_, min}
 use native.Mathlib.Omega.{arith}
+use native.Mathlib.Nat.{min-eq-left}
 use native.Mathlib.Numerals.{add-one}
 use lib.Dec.{leb}
 use lib.ListN.{length, getD, set, take, drop, length-append, length-set}
@@ -12,7 +12,6 @@ use borrow.Author.Tests.{le-leb, lt-leb}
 use Rattle.promise.specs.Over.{over}
 use Rattle.octets.specs.Bytes.{digits}
 use Rattle.octets.specs.Octets.{prefixBytes, prefixSize, prefixOctets, stored, putAt, prefixPut}
-use Rattle.octets.specs.Needs.{fourOf}
 use Rattle.octets.proofs.Bytes.{length-digits}
 use Rattle.octets.proofs.Prefixes.{length-prefix-octets}
 
@@ -105,18 +104,18 @@ module _ (bytes : List ℕ) (at : ℕ) (new : List ℕ) where
   put-over h = rw (lt-leb (at + length new) (length bytes) h)
 
 -- a number, of n bytes
-module _ (bytes : List ℕ) (at k x n : ℕ) (n-is : n ≡ fourOf k) where
-  pub number-over : length bytes < at + n → putAt bytes at (digits (fourOf k) x) ≡ bytes
-  number-over h = put-over bytes at (digits (fourOf k) x) (omega (arith, length-digits (fourOf k) x, n-is))
+module _ (bytes : List ℕ) (at k x n : ℕ) (n-is : n ≡ min k 4) where
+  pub number-over : length bytes < at + n → putAt bytes at (digits (min k 4) x) ≡ bytes
+  number-over h = put-over bytes at (digits (min k 4) x) (omega (arith, length-digits (min k 4) x, n-is))
 
-  pub number-stored : at + n ≤ length bytes → putAt bytes at (digits (fourOf k) x) ≡ stored bytes at (digits n x)
+  pub number-stored : at + n ≤ length bytes → putAt bytes at (digits (min k 4) x) ≡ stored bytes at (digits n x)
   number-stored h =
-      put-fits bytes at (digits (fourOf k) x) (omega (arith, length-digits (fourOf k) x, n-is))
+      put-fits bytes at (digits (min k 4) x) (omega (arith, length-digits (min k 4) x, n-is))
       ∙ ap (λ (m : ℕ). stored bytes at (digits m x)) (sym n-is)
 
 -- one that fits
-pub number-fits : (bytes : List ℕ) (at k x : ℕ) → k ≤ 4 → at + k ≤ length bytes → putAt bytes at (digits (fourOf k) x) ≡ stored bytes at (digits k x)
-number-fits bytes at k x few h = number-stored bytes at k x k (sym (ap (λ (t : Bool). cond t k 4) (le-leb k 4 few))) h
+pub number-fits : (bytes : List ℕ) (at k x : ℕ) → k ≤ 4 → at + k ≤ length bytes → putAt bytes at (digits (min k 4) x) ≡ stored bytes at (digits k x)
+number-fits bytes at k x few h = number-stored bytes at k x k (sym (min-eq-left few)) h
 
 -- a prefix
 module _ (w : ℕ) (bytes : List ℕ) (at value len : ℕ) where

@@ -1,6 +1,6 @@
 -- Numbers as bytes, and prefixes as a length byte and the fewest bytes that hold them.
 pub mod Bytes
 pub mod Octets
-pub mod Needs
+pub mod Gives
 pub mod Taken
 pub mod Theorems

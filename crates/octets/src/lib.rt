@@ -1,11 +1,11 @@
 // Numbers as big-endian bytes, and a prefix as one length byte and the fewest bytes that hold it, read and written at an offset.
 ghost use mathlib.Core.Path.{_≡_};
-ghost use Prim.Native.Nat.{_+_, _^_, _≤_, _<_};
+ghost use Prim.Native.Nat.{_+_, _^_, _≤_, _<_, min};
 ghost use lib.ListN.{length};
 ghost use Rattle.bits.specs.Prefix.{first};
 ghost use Rattle.octets.specs.Bytes.{digits};
 ghost use Rattle.octets.specs.Octets.{prefixBytes, prefixSize, lenAt, valueFrom, prefixAt, prefixOctets, stored, putAt, prefixPut};
-ghost use Rattle.octets.specs.Needs.{BytesFor, SizeFor, ByteIs, fourOf, NumberAt};
+ghost use Rattle.octets.specs.Gives.{BytesFor, SizeFor, ByteIs, NumberAt};
 ghost use Rattle.octets.specs.Taken.{takenAt};
 use prefix::Prefix;
 
@@ -32,7 +32,7 @@ fn wide(b: u8) -> u64
 
 // A number up to four.
 fn four_of(k: usize) -> usize
-    ensures { λ r. ⌜ (r ≡ fourOf k) × (r ≤ 4) ⌝ }
+    ensures { λ r. ⌜ (r ≡ min k 4) × (r ≤ 4) ⌝ }
 {
     if k <= 4 { k } else { 4 }
 }
@@ -53,7 +53,7 @@ fn number_of(bytes: &[u8], from: usize, k: usize) -> u64
 
 // The number that k bytes write, big-endian: of more than four the first four, and of those the ones that are there.
 pub fn number_at(bytes: &[u8], from: usize, k: usize) -> u64
-    ensures { λ r. ⌜ NumberAt (now (bytes .entry)) from (fourOf k) r ⌝ }
+    ensures { λ r. ⌜ NumberAt (now (bytes .entry)) from (min k 4) r ⌝ }
 {
     if bytes.len() <= from {
         return 0;
@@ -149,7 +149,7 @@ fn store_number(bytes: &mut [u8], at: usize, k: usize, x: u64)
 
 // Stores the last k bytes of a number, four at most, big-endian, from an offset on; none where there is no room for them.
 pub fn put_number(bytes: &mut [u8], at: usize, k: usize, x: u64)
-    ensures { λ _. ⌜ now (bytes .exit) ≡ putAt (now (bytes .entry)) at (digits (fourOf k) x) ⌝ }
+    ensures { λ _. ⌜ now (bytes .exit) ≡ putAt (now (bytes .entry)) at (digits (min k 4) x) ⌝ }
 {
     let most = four_of(k);
     if bytes.len() < most {

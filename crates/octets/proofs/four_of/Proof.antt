@@ -1,13 +1,14 @@
 use native.Mathlib.Omega.{arith}
-use borrow.Author.Tests.{le-leb, lt-leb}
+use mathlib.Core.Path.{sym}
+use native.Mathlib.Nat.{min-eq-left, min-eq-right}
 use Rattle.octets.proofs.four_of.Statement.{statement}
 use Rattle.octets.proofs.four_of.Tie as tie
 
 returns : tie.Need-returns
-returns c = (simp (le-leb _ _ (c .if1 .taken)), c .if1 .taken)
+returns c = (sym (min-eq-left (c .if1 .taken)), c .if1 .taken)
 
 returns-2 : tie.Need-returns-2
-returns-2 c = (simp (lt-leb _ _ (c .if1 .left)), omega arith)
+returns-2 c = (sym (min-eq-right (omega (arith, c .if1 .left))), omega arith)
 
 pub four-of-spec : {M : Type 1} → statement M
 four-of-spec = tie.close (tie.spec returns returns-2)

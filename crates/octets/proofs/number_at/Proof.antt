@@ -1,8 +1,8 @@
 use native.Mathlib.Omega.{arith}
 use mathlib.Core.Path.{refl, subst}
-use Prim.Native.Nat.{ℕ}
+use Prim.Native.Nat.{ℕ, min}
 use borrow.Author.Needs.{needs}
-use Rattle.octets.specs.Needs.{fourOf, NumberAt}
+use Rattle.octets.specs.Gives.{NumberAt}
 use Rattle.octets.proofs.Numbers.{number-cut, number-past}
 use Rattle.octets.proofs.number_at.Statement.{statement}
 use Rattle.octets.proofs.number_at.Tie as tie
@@ -10,7 +10,7 @@ use Rattle.octets.proofs.number_at.Tie as tie
 returns : tie.Need-returns
 returns c =
     let a = c .before .before .args in
-    number-past (a .bytes .now) (a .from) (fourOf (a .k)) (c .if1 .taken)
+    number-past (a .bytes .now) (a .from) (min (a .k) 4) (c .if1 .taken)
 
 sub-left : tie.Need-sub-left
 sub-left c = search needs
@@ -24,7 +24,7 @@ number-of-requires c κs = search needs
 returns-2 : tie.Need-returns-2
 returns-2 c =
     let a = c .before .before .before .before .before .args in
-    number-cut (a .bytes .now) (a .from) (fourOf (a .k)) _ _ refl (omega (arith, c .before .if2 .taken, c .before .before .four-of .ensures .0)) (c .number-of .ensures)
+    number-cut (a .bytes .now) (a .from) (min (a .k) 4) _ _ refl (omega (arith, c .before .if2 .taken, c .before .before .four-of .ensures .0)) (c .number-of .ensures)
 
 number-of-requires-2 : tie.Need-number-of-requires-2
 number-of-requires-2 c κs = search needs

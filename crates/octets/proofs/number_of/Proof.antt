@@ -1,7 +1,7 @@
 use Prim.Native.Nat.{_-_, _≤_}
 use native.Mathlib.Omega.{arith}
 use borrow.Author.Needs.{needs}
-use Rattle.octets.specs.Needs.{NumberAt}
+use Rattle.octets.specs.Gives.{NumberAt}
 use Rattle.octets.proofs.Numbers.{number-none, number-more, number-room}
 use mathlib.Core.Path.{_≡_}
 use Rattle.octets.proofs.number_of.Statement.{statement}

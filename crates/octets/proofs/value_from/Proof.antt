@@ -6,7 +6,7 @@ use lib.ListN.{take, drop}
 use Rattle.bits.specs.Prefix.{first}
 use Rattle.octets.specs.Bytes.{number}
 use Rattle.octets.specs.Octets.{prefixBytes, valueFrom}
-use Rattle.octets.specs.Needs.{NumberAt}
+use Rattle.octets.specs.Gives.{NumberAt}
 use Rattle.octets.proofs.Numbers.{front-cleared, shifted}
 use borrow.Author.Needs.{needs}
 use Rattle.octets.proofs.value_from.Statement.{statement}

@@ -1,9 +1,7 @@
 -- Defines what the functions on bytes give, with the bounds that their callers want. Assumes nothing.
 use mathlib.Core.Path.{_≡_}
-use mathlib.Core.Bool.{cond}
 use mathlib.Core.List.{List}
 use Prim.Native.Nat.{ℕ, _*_, _^_, _<_}
-use lib.Dec.{leb}
 use lib.ListN.{take, drop}
 use Rattle.octets.specs.Bytes.{number}
 use Rattle.octets.specs.Octets.{prefixBytes, prefixSize}
@@ -22,10 +20,6 @@ pub record SizeFor (len r : ℕ) : Type 0 where
 pub record ByteIs (b r : ℕ) : Type 0 where
   pub is : r ≡ b
   pub small : r < 2 ^ 8
-
--- a number up to four: so many bytes a number has at most
-abbrev pub fourOf : ℕ → ℕ
-fourOf k = cond (leb k 4) k 4
 
 -- r is the number that k bytes write, or those of them that are there
 pub record NumberAt (bytes : List ℕ) (from k r : ℕ) : Type 0 where

@@ -22,10 +22,11 @@ use Rattle.file_rules.proofs.Sound.{frame-fault-rest, frame-none}
 use Rattle.prefix.specs.Prefixes.{prefix}
 use Rattle.prefix.specs.declared.Prefix.{Prefix}
 
--- the prefix of a whole route, and how many bytes hold it
-module _ (w : ℕ) (file : List ℕ) (at : ℕ) (p : Prefix) (k : ℕ) (p-is : p ≡ prefixAt w file at) (k-is : k ≡ prefixBytes (p .len)) where
+-- the length and the prefix of a whole route, and how many bytes hold it
+module _ (w : ℕ) (file : List ℕ) (at len : ℕ) (len-is : len ≡ lenAt file at) (p : Prefix) (p-is : p ≡ prefixAt w file at)
+    (k : ℕ) (k-is : k ≡ prefixBytes len) where
   size-is : at + 1 + k ≡ at + prefixSize (lenAt file at)
-  size-is = omega (arith, k-is ∙ ap (λ (q : Prefix). prefixBytes (q .len)) p-is)
+  size-is = omega (arith, k-is ∙ ap (λ (l : ℕ). prefixBytes l) len-is)
 
   pub read-is : (port : ℕ) → port ≡ portFrom file (at + 1 + k) → route (p .value) (p .len) port ≡ readAt w file at
   unfolding readAt

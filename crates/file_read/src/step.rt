@@ -12,8 +12,8 @@ ghost use Rattle.file_read.specs.Needs.{Standing};
 use file_rules::route_size;
 use octets::length_at;
 use octets::number_at;
-use octets::prefix_at;
 use octets::prefix_bytes;
+use octets::prefix_from;
 use prefix::Prefix;
 use refusals::Answer;
 use refusals::LONG_PREFIX;
@@ -50,9 +50,10 @@ pub(crate) fn read_at(file: &[u8], at: usize) -> Route
     requires { ⌜ Entire 32 (now file) at ⌝ }
     ensures { λ r. ⌜ r ≡ readAt 32 (now (file .entry)) at ⌝ }
 {
-    let p = prefix_at(file, at);
+    let len = length_at(file, at);
+    let p = prefix_from(file, at + 1, len);
     // Summed in this order: by `prefix_size`, the loads of the length bytes waited for a sum, and a file took a seventh longer.
-    let port = port_from(file, at + 1 + prefix_bytes(p.len));
+    let port = port_from(file, at + 1 + prefix_bytes(len));
     Route {
         value: p.value,
         len: p.len,

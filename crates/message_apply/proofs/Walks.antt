@@ -9,7 +9,8 @@ use Rattle.octets.specs.Octets.{prefixSize}
 use Rattle.octets.specs.Taken.{takenAt}
 use Rattle.octets.specs.declared.Taken.the-variants.{Whole, Long, Cut}
 use Rattle.message_rules.specs.Message.{prefixesFrom, prefixesIn}
-use Rattle.message_rules.proofs.Walk.{taken-whole, prefixesAfter, prefixes-whole, prefixes-long, prefixes-cut, prefixes-end}
+use Rattle.octets.proofs.TakeReturns.{whole-taken}
+use Rattle.message_rules.proofs.Walk.{prefixesAfter, prefixes-whole, prefixes-long, prefixes-cut, prefixes-end}
 use Rattle.message_calls.specs.Steps.{folded}
 
 -- what is still to do from an offset on gives what all gives
@@ -29,7 +30,7 @@ module _ {X : Type 0} (step : X → Prefix → X) (w : ℕ) (part : List ℕ) (s
         → Walked step w part s₀ s′ (at + k)
     unfolding folded
     walked-more p e s′ s-is k k-is =
-        let h = taken-whole w part at p e in
+        let h = whole-taken w part at p e in
         let l = ap (λ (q : Prefix). prefixSize (q .len)) (h .is) in
         record {
           within = omega (arith, k-is, l, h .uncut);

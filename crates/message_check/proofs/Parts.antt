@@ -10,7 +10,8 @@ use Rattle.octets.specs.Octets.{prefixSize}
 use Rattle.octets.specs.Taken.{takenAt}
 use Rattle.octets.specs.declared.Taken.the-variants.{Whole, Long, Cut}
 use Rattle.message_rules.specs.Check.{partFrom, partCheck}
-use Rattle.message_rules.proofs.Walk.{taken-whole, partAfter, part-whole, part-long, part-cut, part-end}
+use Rattle.octets.proofs.TakeReturns.{whole-taken}
+use Rattle.message_rules.proofs.Walk.{partAfter, part-whole, part-long, part-cut, part-end}
 
 -- no prefix before an offset is at fault
 pub record Passed (w : ℕ) (part : List ℕ) (from at : ℕ) : Type 0 where
@@ -24,7 +25,7 @@ module _ (w : ℕ) (part : List ℕ) (from : ℕ) where
   module _ (at : ℕ) (so : Passed w part from at) where
     pub passed-more : (p : Prefix) (k : ℕ) → takenAt w part at ≡ Whole p → k ≡ prefixSize (p .len) → Passed w part from (at + k)
     passed-more p k e k-is =
-        let h = taken-whole w part at p e in
+        let h = whole-taken w part at p e in
         let l = ap (λ (q : Prefix). prefixSize (q .len)) (h .is) in
         record {
           within = omega (arith, k-is, l, h .uncut);

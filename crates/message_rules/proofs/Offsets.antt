@@ -14,12 +14,12 @@ use Rattle.octets.specs.Octets.{prefixSize, lenAt, prefixAt}
 use Rattle.octets.specs.Taken.{takenAt}
 use Rattle.octets.specs.declared.Taken.{Taken}
 use Rattle.octets.specs.declared.Taken.the-variants.{Whole, Long, Cut}
-use Rattle.octets.proofs.TakeReturns.{taken-long, taken-cut, taken-whole as whole-taken}
+use Rattle.octets.proofs.TakeReturns.{TakenWhole, taken-long, taken-cut, taken-whole, whole-taken}
 use Rattle.message_rules.specs.Message.{prefixesFrom}
 use Rattle.message_rules.specs.Check.{faultOf}
 use Rattle.message_rules.specs.Faults.{offsetOf, WholePart}
 use Rattle.message_rules.specs.Theorems.{PrefixFaults, PrefixesAre}
-use Rattle.message_rules.proofs.Walk.{TakenWhole, taken-whole, prefixesAfter, prefixes-whole, prefixes-end}
+use Rattle.message_rules.proofs.Walk.{prefixesAfter, prefixes-whole, prefixes-end}
 
 pub offset-none : (part : List ℕ) → offsetOf part 0 ≡ 0
 unfolding offsetOf
@@ -36,7 +36,7 @@ prefix-faults w part at = (
   λ short cut. ap (λ (t : Taken). faultOf t) (sym (taken-cut w part at (lenAt part at) refl short (prefixSize (lenAt part at)) refl cut)),
   λ short uncut.
       ap (λ (t : Taken). faultOf t)
-      (sym (whole-taken w part at (lenAt part at) refl short (prefixSize (lenAt part at)) refl uncut (prefixAt w part at) refl)),
+      (sym (taken-whole w part at (lenAt part at) refl short (prefixSize (lenAt part at)) refl uncut (prefixAt w part at) refl)),
 )
 
 -- the faults are 4 and 14
@@ -52,14 +52,14 @@ module _ (w : ℕ) (part : List ℕ) where
     where
       go : (t : Taken) → takenAt w part at ≡ t → faultOf t ≡ 0 → TakenWhole w part at (prefixAt w part at)
       go (Whole p) e z =
-          let h = taken-whole w part at p e in record { is = refl; short = h .short; uncut = h .uncut }
+          let h = whole-taken w part at p e in record { is = refl; short = h .short; uncut = h .uncut }
       go Long e z = absurd (omega (arith, z))
       go Cut e z = absurd (omega (arith, z))
 
   pub sound-taken : (at : ℕ) → faultOf (takenAt w part at) ≡ 0 → takenAt w part at ≡ Whole (prefixAt w part at)
   sound-taken at z =
       let h = sound-whole at z in
-      sym (whole-taken w part at (lenAt part at) refl (h .short) (prefixSize (lenAt part at)) refl (h .uncut) (prefixAt w part at) refl)
+      sym (taken-whole w part at (lenAt part at) refl (h .short) (prefixSize (lenAt part at)) refl (h .uncut) (prefixAt w part at) refl)
 
 -- from prefix i of a whole part on
 prefixes-from : (w : ℕ) (part : List ℕ) (n : ℕ) → WholePart w part n → (k i : ℕ) → i + k ≡ n

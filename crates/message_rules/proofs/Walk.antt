@@ -1,58 +1,27 @@
 -- The walk through a part, prefix by prefix: what is left after one, and where it ends. Assumes nothing.
 use mathlib.Core.Path.{_≡_, refl, sym, ap, _∙_, subst}
-use mathlib.Core.Logic.{_⊎_, inl, inr}
-use mathlib.Core.Bool.{true, false, cond}
+use mathlib.Core.Bool.{cond}
 use mathlib.Core.List.{List, [], _∷_}
 use Prim.Native.Nat.{ℕ, zero, suc, _+_, _-_, _%_, _≤_, _<_}
 use native.Mathlib.Omega.{arith}
-use lib.Dec.{eqb, leb, ltb}
+use lib.Dec.{eqb, ltb}
 use lib.ListN.{length}
-use borrow.Author.Tests.{leb-true, lt-ltb, le-ltb}
+use borrow.Author.Tests.{lt-ltb, le-ltb}
 use Rattle.bits.specs.Prefix.{Valid}
-use Rattle.lists.proofs.Tests.{way}
 use Rattle.prefix.specs.declared.Prefix.{Prefix}
 use Rattle.refusals.specs.Refusals.{longPrefix, badMessage, refused, accepted}
 use Rattle.refusals.specs.declared.Answer.{Answer}
 use Rattle.octets.specs.Bytes.{Bytes}
-use Rattle.octets.specs.Octets.{prefixSize, lenAt, prefixAt}
+use Rattle.octets.specs.Octets.{prefixSize, lenAt}
 use Rattle.octets.specs.Taken.{takenAt}
 use Rattle.octets.specs.declared.Taken.{Taken}
 use Rattle.octets.specs.declared.Taken.the-variants.{Whole, Long, Cut}
-use Rattle.octets.proofs.TakeReturns.{taken-past}
+use Rattle.octets.proofs.TakeReturns.{taken-past, whole-taken}
 use Rattle.octets.proofs.Prefixes.{prefix-valid}
 use Rattle.message_rules.specs.Message.{ahead, prefixesFrom, AllValid}
 use Rattle.message_rules.specs.Check.{faultOf, partFrom}
 
--- what is known where a prefix is taken whole
-pub record TakenWhole (w : ℕ) (part : List ℕ) (at : ℕ) (p : Prefix) : Type 0 where
-  pub is : p ≡ prefixAt w part at
-  pub short : lenAt part at ≤ w
-  pub uncut : at + prefixSize (lenAt part at) ≤ length part
-
 module _ (w : ℕ) (part : List ℕ) where
-  pub taken-whole : (at : ℕ) (p : Prefix) → takenAt w part at ≡ Whole p → TakenWhole w part at p
-  unfolding takenAt
-  taken-whole at p = go (way (leb (lenAt part at) w)) (way (leb (at + prefixSize (lenAt part at)) (length part)))
-    where
-      go : (leb (lenAt part at) w ≡ true) ⊎ (leb (lenAt part at) w ≡ false)
-          → (leb (at + prefixSize (lenAt part at)) (length part) ≡ true) ⊎ (leb (at + prefixSize (lenAt part at)) (length part) ≡ false)
-          → cond (leb (lenAt part at) w)
-          (cond (leb (at + prefixSize (lenAt part at)) (length part)) (Whole (prefixAt w part at)) Cut) Long
-          ≡ Whole p
-          → TakenWhole w part at p
-      go (inl a) (inl b) e =
-          let s : Whole (prefixAt w part at) ≡ Whole p = rw (a, b) at e in
-          let n : p ≡ prefixAt w part at = cc in
-          record { is = n; short = leb-true (lenAt part at) w a; uncut = leb-true (at + prefixSize (lenAt part at)) (length part) b }
-      go (inl a) (inr b) e =
-          let s : Cut ≡ Whole p = rw (a, b) at e in
-          let z : _≡_ {A = ℕ} 0 1 = cc in
-          absurd (omega arith)
-      go (inr a) b e =
-          let s : Long ≡ Whole p = rw a at e in
-          let z : _≡_ {A = ℕ} 0 1 = cc in
-          absurd (omega arith)
-
   -- the prefixes, and the check, from an offset on
 
   abbrev pub prefixesAfter : ℕ → List Prefix
@@ -83,7 +52,7 @@ module _ (w : ℕ) (part : List ℕ) where
   pub prefixes-whole : (at : ℕ) (p : Prefix) → takenAt w part at ≡ Whole p → prefixesAfter at ≡ p ∷ prefixesAfter (at + prefixSize (p .len))
   prefixes-whole at p e =
       prefixes-next at ∙ ap (λ (t : Taken). ahead t (prefixesAfter (at + prefixSize (lenAt part at)))) e
-      ∙ ap (λ (l : ℕ). p ∷ prefixesAfter (at + prefixSize l)) (sym (ap (λ (q : Prefix). q .len) (taken-whole at p e .is)))
+      ∙ ap (λ (l : ℕ). p ∷ prefixesAfter (at + prefixSize l)) (sym (ap (λ (q : Prefix). q .len) (whole-taken w part at p e .is)))
 
   pub prefixes-long : (at : ℕ) → takenAt w part at ≡ Long → prefixesAfter at ≡ []
   prefixes-long at e = prefixes-next at ∙ ap (λ (t : Taken). ahead t (prefixesAfter (at + prefixSize (lenAt part at)))) e
@@ -115,7 +84,7 @@ module _ (w : ℕ) (part : List ℕ) where
       by : (t : Taken) → takenAt w part at ≡ t → AllValid w (prefixesFrom w part k (at + prefixSize (lenAt part at)))
           → AllValid w (ahead t (prefixesFrom w part k (at + prefixSize (lenAt part at))))
       by (Whole p) e ih =
-          let h = taken-whole at p e in (subst (λ (q : Prefix). Valid w (q .value) (q .len)) (sym (h .is)) (prefix-valid w part at bytes (h .uncut) whole (h .short)), ih)
+          let h = whole-taken w part at p e in (subst (λ (q : Prefix). Valid w (q .value) (q .len)) (sym (h .is)) (prefix-valid w part at bytes (h .uncut) whole (h .short)), ih)
       by Long e ih = tt
       by Cut e ih = tt
 
@@ -151,7 +120,7 @@ module _ (w : ℕ) (part : List ℕ) where
 
     pub part-whole : (at : ℕ) (p : Prefix) → takenAt w part at ≡ Whole p → partAfter at ≡ partAfter (at + prefixSize (p .len))
     part-whole at p e =
-        let h = taken-whole at p e in
+        let h = whole-taken w part at p e in
         part-next at (omega (arith, h .uncut))
         ∙ ap (λ (t : Taken). cond (eqb (faultOf t) 0) (partAfter (at + prefixSize (lenAt part at))) (refused (faultOf t) (from + at))) e
         ∙ ap (λ (l : ℕ). partAfter (at + prefixSize l)) (sym (ap (λ (q : Prefix). q .len) (h .is)))

@@ -10,8 +10,8 @@ use Rattle.octets.proofs.number_at.Kinds as number-at-kinds
 use Rattle.octets.proofs.number_at.Reads as number-at-reads
 use Rattle.octets.proofs.length_at.Kinds as length-at-kinds
 use Rattle.octets.proofs.length_at.Reads as length-at-reads
-use Rattle.octets.proofs.prefix_at.Kinds as prefix-at-kinds
-use Rattle.octets.proofs.prefix_at.Reads as prefix-at-reads
+use Rattle.octets.proofs.prefix_from.Kinds as prefix-from-kinds
+use Rattle.octets.proofs.prefix_from.Reads as prefix-from-reads
 use Rattle.octets.proofs.take_prefix.Kinds as take-prefix-kinds
 use Rattle.octets.proofs.take_prefix.Reads as take-prefix-reads
 use Rattle.octets.proofs.put_number.Kinds as put-number-kinds
@@ -31,8 +31,8 @@ number-at-unique κs a x y s t p q = p .is ∙ sym (q .is)
 length-at-unique : Determined 1 length-at-kinds.ps length-at-kinds.r length-at-reads.Post (λ κs x s. x)
 length-at-unique κs a x y s t p q = p .is ∙ sym (q .is)
 
-prefix-at-unique : Determined 1 prefix-at-kinds.ps prefix-at-kinds.r prefix-at-reads.Post (λ κs x s. x)
-prefix-at-unique κs a x y s t p q = p ∙ sym q
+prefix-from-unique : Determined 1 prefix-from-kinds.ps prefix-from-kinds.r prefix-from-reads.Post (λ κs x s. x)
+prefix-from-unique κs a x y s t p q = p ∙ sym q
 
 take-prefix-unique : Determined 1 take-prefix-kinds.ps take-prefix-kinds.r take-prefix-reads.Post (λ κs x s. x)
 take-prefix-unique κs a x y s t p q = p ∙ sym q

@@ -33,10 +33,13 @@ lenAt bytes at = getD bytes at 0
 abbrev pub valueFrom : ℕ → List ℕ → ℕ → ℕ → ℕ
 valueFrom w bytes from len = number (take (prefixBytes len) (drop from bytes)) * 2 ^ bitsAfter w len
 
--- the prefix at an offset, the bits past its length cleared: the one place that says what becomes of spare bits
+-- the prefix of a length from those bytes, the bits past it cleared: the one place that says what becomes of spare bits
+abbrev pub prefixFrom : ℕ → List ℕ → ℕ → ℕ → Prefix
+prefixFrom w bytes from len = prefix (first w (valueFrom w bytes from len) len) len
+
+-- the prefix at an offset: its bytes follow its length
 abbrev pub prefixAt : ℕ → List ℕ → ℕ → Prefix
-prefixAt w bytes at =
-    prefix (first w (valueFrom w bytes (at + 1) (lenAt bytes at)) (lenAt bytes at)) (lenAt bytes at)
+prefixAt w bytes at = prefixFrom w bytes (at + 1) (lenAt bytes at)
 
 -- writing
 

@@ -1,10 +1,11 @@
 // Numbers as big-endian bytes, and a prefix as one length byte and the fewest bytes that hold it, read and written at an offset.
 ghost use mathlib.Core.Path.{_≡_};
 ghost use Prim.Native.Nat.{_+_, _^_, _≤_, _<_, min};
+ghost use lib.Dec.{leb};
 ghost use lib.ListN.{length};
 ghost use Rattle.bits.specs.Prefix.{first};
 ghost use Rattle.octets.specs.Bytes.{digits};
-ghost use Rattle.octets.specs.Octets.{prefixBytes, prefixSize, lenAt, valueFrom, prefixAt, prefixOctets, stored, putAt, prefixPut};
+ghost use Rattle.octets.specs.Octets.{prefixSize, lenAt, valueFrom, prefixFrom, prefixOctets, stored, putAt, prefixPut};
 ghost use Rattle.octets.specs.Gives.{BytesFor, SizeFor, ByteIs, NumberAt};
 ghost use Rattle.octets.specs.Taken.{takenAt};
 use prefix::Prefix;
@@ -30,11 +31,21 @@ fn wide(b: u8) -> u64
     b as u64
 }
 
-// A number up to four.
-fn four_of(k: usize) -> usize
-    ensures { λ r. ⌜ (r ≡ min k 4) × (r ≤ 4) ⌝ }
+// A number, as far as `most`.
+fn up_to(most: usize, x: usize) -> usize
+    ensures { λ r. ⌜ (r ≡ min x most) × (r ≤ most) ⌝ }
 {
-    if k <= 4 { k } else { 4 }
+    if x <= most { x } else { most }
+}
+
+// Whether k bytes from an offset on are all among so many.
+fn are_there(count: usize, from: usize, k: usize) -> bool
+    ensures { λ r. ⌜ r ≡ leb (from + k) count ⌝ }
+{
+    if count < k {
+        return false;
+    }
+    from <= count - k
 }
 
 // The number that k bytes write, big-endian, where they are all there.
@@ -59,7 +70,7 @@ pub fn number_at(bytes: &[u8], from: usize, k: usize) -> u64
         return 0;
     }
     let left = bytes.len() - from;
-    let most = four_of(k);
+    let most = up_to(4, k);
     if left < most {
         return number_of(bytes, from, left);
     }
@@ -88,26 +99,25 @@ fn clear_past(high: u64, len: u32) -> u32
 
 // The value of a prefix from its bytes, its spare bits cleared.
 fn value_from(bytes: &[u8], from: usize, len: u32) -> u32
-    requires { ⌜ (from + prefixBytes len ≤ length (now bytes)) × (len ≤ 32) ⌝ }
+    requires { ⌜ len ≤ 32 ⌝ }
     ensures { λ r. ⌜ r ≡ first 32 (valueFrom 32 (now (bytes .entry)) from len) len ⌝ }
 {
     // Four bytes at once where there are so many, and those past the prefix cleared too: no loop whose end must be guessed.
-    if from + 4 <= bytes.len() {
+    if are_there(bytes.len(), from, 4) {
         return clear_past(number_of(bytes, from, 4), len);
     }
     let k = prefix_bytes(len);
-    let high = number_of(bytes, from, k);
+    let high = number_at(bytes, from, k);
     clear_past(high << (32 - 8 * k), len)
 }
 
-// The prefix at an offset, where a whole one stands.
-pub fn prefix_at(bytes: &[u8], at: usize) -> Prefix
-    requires { ⌜ (lenAt (now bytes) at ≤ 32) × (at + prefixSize (lenAt (now bytes) at) ≤ length (now bytes)) ⌝ }
-    ensures { λ r. ⌜ r ≡ prefixAt 32 (now (bytes .entry)) at ⌝ }
+// The prefix of a length, of which more than 32 bits count as 32, from its bytes, or those of them that are there.
+pub fn prefix_from(bytes: &[u8], from: usize, len: u32) -> Prefix
+    ensures { λ r. ⌜ r ≡ prefixFrom 32 (now (bytes .entry)) from (min len 32) ⌝ }
 {
-    let len = length_at(bytes, at);
-    let value = value_from(bytes, at + 1, len);
-    Prefix { value, len }
+    let bits = up_to(32, len as usize) as u32;
+    let value = value_from(bytes, from, bits);
+    Prefix { value, len: bits }
 }
 
 // What stands at an offset of some bytes: a whole prefix, or a length byte above 32, or a prefix that runs past the end.
@@ -131,7 +141,7 @@ pub fn take_prefix(bytes: &[u8], at: usize) -> Taken
     if bytes.len() < at + prefix_size(len) {
         return Taken::Cut;
     }
-    Taken::Whole(prefix_at(bytes, at))
+    Taken::Whole(prefix_from(bytes, at + 1, len))
 }
 
 // Stores the last k bytes of a number, big-endian, from an offset on, where there is room for them.
@@ -151,14 +161,10 @@ fn store_number(bytes: &mut [u8], at: usize, k: usize, x: u64)
 pub fn put_number(bytes: &mut [u8], at: usize, k: usize, x: u64)
     ensures { λ _. ⌜ now (bytes .exit) ≡ putAt (now (bytes .entry)) at (digits (min k 4) x) ⌝ }
 {
-    let most = four_of(k);
-    if bytes.len() < most {
-        return;
+    let most = up_to(4, k);
+    if are_there(bytes.len(), at, most) {
+        store_number(bytes, at, most, x);
     }
-    if bytes.len() - most < at {
-        return;
-    }
-    store_number(bytes, at, most, x);
 }
 
 // Stores a prefix from an offset on, where there is room for it: its length, and the bytes that hold it.
@@ -179,12 +185,7 @@ pub fn put_prefix(bytes: &mut [u8], at: usize, value: u32, len: u32)
     if 32 < len {
         return;
     }
-    let size = prefix_size(len);
-    if bytes.len() < size {
-        return;
+    if are_there(bytes.len(), at, prefix_size(len)) {
+        store_prefix(bytes, at, value, len);
     }
-    if bytes.len() - size < at {
-        return;
-    }
-    store_prefix(bytes, at, value, len);
 }

@@ -1,5 +1,5 @@
-/* Segment tables as one would write them by hand: a build that takes its list to be valid and its stores to be long enough, and a
- * lookup with the parameters, answers and refusals of mft_segments_lookup. */
+/* Segment tables as one would write them by hand: a build that takes its list to be valid and its stores to be long enough, a lookup
+ * with the parameters, answers and refusals of mft_segments_lookup, and the same lookup without a check, for tables that were built. */
 #include <stddef.h>
 #include <stdint.h>
 #include <string.h>
@@ -99,44 +99,59 @@ static uint32_t replied(uint32_t number, uint32_t port, uint32_t reads, uint32_t
     return number;
 }
 
-static uint32_t replied_port(uint32_t entry, uint32_t reads, uint32_t *answer)
+static uint32_t replied_port(int checked, uint32_t entry, uint32_t reads, uint32_t *answer)
 {
-    return entry <= PORT_LAST ? replied(0, entry, reads, answer) : replied(NOT_IN_ORDER, 0, reads, answer);
+    return checked && entry > PORT_LAST ? replied(NOT_IN_ORDER, 0, reads, answer) : replied(0, entry, reads, answer);
+}
+
+/* Both lookups: `checked` is a constant wherever this is inlined, so that where it is 0 no test of it is left. */
+static inline __attribute__((always_inline)) uint32_t
+lookup(int checked, const uint16_t *first, size_t first_count, const uint16_t *packed, size_t packed_count, const uint16_t *plain,
+       size_t plain_count, const uint16_t *last, size_t last_count, uint32_t address, uint32_t *answer)
+{
+    if (checked && first_count < FIRST_ENTRIES)
+        return replied(NOT_IN_ORDER, 0, 0, answer);
+    uint32_t third = address >> 8 & 255, reads;
+    uint32_t entry = first[address >> 16];
+    if (entry < POINTER)
+        return replied_port(checked, entry, 1, answer);
+    if (entry < PLAIN_POINTER) {
+        size_t from = (size_t)(entry - POINTER) * PACKED_WORDS;
+        if (checked && from + PACKED_WORDS > packed_count)
+            return replied(NOT_IN_ORDER, 0, 1, answer);
+        const uint16_t *block = packed + from;
+        uint32_t codeword = block[third / 8];
+        /* Where the index would be -1 it wraps, and is above 63 too. */
+        uint32_t index = (codeword & 255) + (uint32_t)__builtin_popcount(codeword >> (15 - third % 8)) - 1;
+        if (checked && index >= KEPT_LAST)
+            return replied(NOT_IN_ORDER, 0, 2, answer);
+        entry = block[CODEWORDS + index];
+        reads = 3;
+    } else {
+        size_t from = (size_t)(entry - PLAIN_POINTER) * OCTET_ENTRIES;
+        if (checked && from + OCTET_ENTRIES > plain_count)
+            return replied(NOT_IN_ORDER, 0, 1, answer);
+        entry = plain[from + third];
+        reads = 2;
+    }
+    if (entry < POINTER)
+        return replied_port(checked, entry, reads, answer);
+    size_t from = (size_t)(entry - POINTER) * OCTET_ENTRIES;
+    if (checked && from + OCTET_ENTRIES > last_count)
+        return replied(NOT_IN_ORDER, 0, reads, answer);
+    return replied_port(checked, last[from + (address & 255)], reads + 1, answer);
 }
 
 uint32_t plain_segments_lookup(const uint16_t *first, size_t first_count, const uint16_t *packed, size_t packed_count,
                                const uint16_t *plain, size_t plain_count, const uint16_t *last, size_t last_count, uint32_t address,
                                uint32_t *answer)
 {
-    if (first_count < FIRST_ENTRIES)
-        return replied(NOT_IN_ORDER, 0, 0, answer);
-    uint32_t third = address >> 8 & 255, reads;
-    uint32_t entry = first[address >> 16];
-    if (entry < POINTER)
-        return replied_port(entry, 1, answer);
-    if (entry < PLAIN_POINTER) {
-        size_t from = (size_t)(entry - POINTER) * PACKED_WORDS;
-        if (from + PACKED_WORDS > packed_count)
-            return replied(NOT_IN_ORDER, 0, 1, answer);
-        const uint16_t *block = packed + from;
-        uint32_t codeword = block[third / 8];
-        /* Where the index would be -1 it wraps, and is above 63 too. */
-        uint32_t index = (codeword & 255) + (uint32_t)__builtin_popcount(codeword >> (15 - third % 8)) - 1;
-        if (index >= KEPT_LAST)
-            return replied(NOT_IN_ORDER, 0, 2, answer);
-        entry = block[CODEWORDS + index];
-        reads = 3;
-    } else {
-        size_t from = (size_t)(entry - PLAIN_POINTER) * OCTET_ENTRIES;
-        if (from + OCTET_ENTRIES > plain_count)
-            return replied(NOT_IN_ORDER, 0, 1, answer);
-        entry = plain[from + third];
-        reads = 2;
-    }
-    if (entry < POINTER)
-        return replied_port(entry, reads, answer);
-    size_t from = (size_t)(entry - POINTER) * OCTET_ENTRIES;
-    if (from + OCTET_ENTRIES > last_count)
-        return replied(NOT_IN_ORDER, 0, reads, answer);
-    return replied_port(last[from + (address & 255)], reads + 1, answer);
+    return lookup(1, first, first_count, packed, packed_count, plain, plain_count, last, last_count, address, answer);
+}
+
+uint32_t plain_segments_lookup_unchecked(const uint16_t *first, size_t first_count, const uint16_t *packed, size_t packed_count,
+                                         const uint16_t *plain, size_t plain_count, const uint16_t *last, size_t last_count,
+                                         uint32_t address, uint32_t *answer)
+{
+    return lookup(0, first, first_count, packed, packed_count, plain, plain_count, last, last_count, address, answer);
 }

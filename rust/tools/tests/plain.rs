@@ -104,6 +104,23 @@ fn the_plain_build_of_segment_tables_leaves_what_the_reference_leaves() {
 }
 
 #[test]
+fn the_lookup_without_checks_answers_as_the_reference_on_built_tables() {
+    for (seed, kind) in (0..300).zip(Kind::ALL.into_iter().cycle()) {
+        let mut random = Random::new(seed);
+        let count = random.index(60);
+        let held = crowded(&mut random, kind, count);
+        let [[first, packed, plain, last], _] = &segments_of(&held);
+        for _ in 0..100 {
+            let address = random.address(&held);
+            let right = reference::segments_lookup(first, packed, plain, last, address);
+            // SAFETY: the stores are built from a valid list.
+            let found = unsafe { plain_segments::lookup_unchecked(first, packed, plain, last, address) };
+            assert_eq!((found.number, found.answer), (right.number, right.answer), "seed {seed} address {address}");
+        }
+    }
+}
+
+#[test]
 fn the_plain_lookup_in_segment_tables_answers_as_the_reference_on_damaged_ones() {
     for (seed, kind) in (0..600).zip(Kind::ALL.into_iter().cycle()) {
         let mut random = Random::new(seed);

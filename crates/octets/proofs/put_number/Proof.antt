@@ -1,51 +1,54 @@
 use mathlib.Core.Path.{sym, _∙_}
-use native.Mathlib.Omega.{arith}
+use Prim.Native.Nat.{_+_}
+use lib.ListN.{length}
+use borrow.Author.Tests.{leb-true, leb-false}
 use denote.Ref.{now}
 use Rattle.octets.proofs.Store.{number-over, number-stored}
 use borrow.Author.Needs.{needs}
 use Rattle.octets.proofs.put_number.Statement.{statement}
 use Rattle.octets.proofs.put_number.Tie as tie
 
-four-of-requires : tie.Need-four-of-requires
-four-of-requires c κs = search needs
+up-to-requires : tie.Need-up-to-requires
+up-to-requires c κs = search needs
 
-returns : tie.Need-returns
-returns c =
-    let f = c .before in
-    let a = f .before .before .args in
-    sym (number-over (now (a .bytes)) (a .at) (a .k) (a .x) _ (f .four-of .ensures .0) (omega (arith, c .if1 .taken)))
-
-sub-if2 : tie.Need-sub-if2
-sub-if2 c = search needs
-
-returns-2 : tie.Need-returns-2
-returns-2 c =
-    let f = c .before .before in
-    let a = f .before .before .args in
-    sym (number-over (now (a .bytes)) (a .at) (a .k) (a .x) _ (f .four-of .ensures .0) (omega (arith, c .before .if1 .left, c .if2 .taken)))
+are-there-requires : tie.Need-are-there-requires
+are-there-requires c κs = search needs
 
 store-number-requires : tie.Need-store-number-requires
-store-number-requires c κs = search needs
+store-number-requires c κs =
+    let t = c .before .before in
+    let f = t .before in
+    let a = f .before .before .args in
+    (leb-true (a .at + f .up-to .result) (length (now (a .bytes))) (sym (t .are-there .ensures) ∙ c .before .if1 .taken), f .up-to .ensures .1)
 
 same-length : tie.Need-same-length
 same-length c = search needs
 
-returns-3 : tie.Need-returns-3
-returns-3 c =
+returns : tie.Need-returns
+returns c =
     let s = c .before .before in
-    let f = s .before .before .before .before in
+    let t = s .before .before .before in
+    let f = t .before in
     let a = f .before .before .args in
     s .store-number .ensures
-    ∙ sym (number-stored (now (a .bytes)) (a .at) (a .k) (a .x) _ (f .four-of .ensures .0) (omega (arith, s .before .before .before .if1 .left, s .before .before .if2 .left)))
+    ∙ sym (number-stored (now (a .bytes)) (a .at) (a .k) (a .x) _ (f .up-to .ensures .0)
+    (leb-true (a .at + f .up-to .result) (length (now (a .bytes))) (sym (t .are-there .ensures) ∙ s .before .before .if1 .taken)))
+
+returns-2 : tie.Need-returns-2
+returns-2 c =
+    let t = c .before in
+    let f = t .before in
+    let a = f .before .before .args in
+    sym (number-over (now (a .bytes)) (a .at) (a .k) (a .x) _ (f .up-to .ensures .0)
+    (leb-false (a .at + f .up-to .result) (length (now (a .bytes))) (sym (t .are-there .ensures) ∙ c .if1 .left)))
 
 pub put-number-spec : {M : Type 1} → statement M
 put-number-spec =
     tie.close
     (tie.spec
-    four-of-requires
-    returns
-    sub-if2
-    returns-2
+    up-to-requires
+    are-there-requires
     store-number-requires
     same-length
-    returns-3)
+    returns
+    returns-2)

@@ -1,5 +1,6 @@
+use mathlib.Core.Path.{_∙_}
 use borrow.Author.Needs.{needs}
-use Rattle.octets.proofs.TakeReturns.{taken-past, taken-long, taken-cut, taken-whole}
+use Rattle.octets.proofs.TakeReturns.{prefix-is, taken-past, taken-long, taken-cut, taken-whole}
 use Rattle.octets.proofs.take_prefix.Statement.{statement}
 use Rattle.octets.proofs.take_prefix.Tie as tie
 
@@ -29,15 +30,18 @@ returns-3 c =
     let a = l .before .before .before .args in
     taken-cut 32 (a .bytes .now) (a .at) _ (l .length-at .ensures .is) (c .before .before .if2 .left) _ (c .before .prefix-size .ensures .is) (c .if3 .taken)
 
-prefix-at-requires : tie.Need-prefix-at-requires
-prefix-at-requires c κs = search needs
+add-prefix-from : tie.Need-add-prefix-from
+add-prefix-from c = search needs
+
+prefix-from-requires : tie.Need-prefix-from-requires
+prefix-from-requires c κs = search needs
 
 returns-4 : tie.Need-returns-4
 returns-4 c =
     let k = c .before .before in
     let l = k .before .before in
     let a = l .before .before .before .args in
-    taken-whole 32 (a .bytes .now) (a .at) _ (l .length-at .ensures .is) (k .before .if2 .left) _ (k .prefix-size .ensures .is) (c .before .if3 .left) _ (c .prefix-at .ensures)
+    taken-whole 32 (a .bytes .now) (a .at) _ (l .length-at .ensures .is) (k .before .if2 .left) _ (k .prefix-size .ensures .is) (c .before .if3 .left) _ (c .prefix-from .ensures ∙ prefix-is 32 (a .bytes .now) (a .at) _ (l .length-at .ensures .is) (k .before .if2 .left))
 
 pub take-prefix-spec : {M : Type 1} → statement M
 take-prefix-spec =
@@ -49,5 +53,6 @@ take-prefix-spec =
     prefix-size-requires
     add-if3
     returns-3
-    prefix-at-requires
+    add-prefix-from
+    prefix-from-requires
     returns-4)

@@ -8,6 +8,8 @@ use std::time::{Duration, Instant};
 pub enum Runner {
     Proved,
     Plain,
+    /// Plain C that takes what it is lent to be in good order, and checks nothing.
+    Unchecked,
     /// The proved library itself, by an image at stride 4: another structure for the same addresses.
     Image,
     /// The proved library itself, by a call that is refused at once: what a call takes that does nothing.

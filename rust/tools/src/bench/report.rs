@@ -7,8 +7,10 @@ pub fn report(all: &[Measured]) -> String {
     all.iter().map(tables).collect::<Vec<_>>().join("\n")
 }
 
-/// The runners by which the library is measured against itself, each with the head of its table.
-const OWN: [(Runner, [&str; 4]); 5] = [
+/// The runners that have a table of their own, each with its head: C that checks nothing, and those by which the library is
+/// measured against itself.
+const OWN: [(Runner, [&str; 4]); 6] = [
+    (Runner::Unchecked, ["What", "proved", "C without a check", "proved ÷ that C"]),
     (Runner::Image, ["What", "segment tables", "image, stride 4", "segment tables ÷ image"]),
     (Runner::Refused, ["What", "segment tables", "a call refused at once", "segment tables ÷ that call"]),
     (Runner::Single, ["What", "one call for all", "a call for each", "one call ÷ a call for each"]),
@@ -16,9 +18,9 @@ const OWN: [(Runner, [&str; 4]); 5] = [
     (Runner::CheckOfCounted, ["What", "with counts", "good-order check", "with counts ÷ check"]),
 ];
 
-/// First what is measured against plain code and the reference, then segment tables against an image and against a call
-/// that is refused at once, many lookups in one call against as many calls, and messages and counts against the check of
-/// a table.
+/// First what is measured against plain code and the reference; then segment tables against C that checks nothing, an image
+/// and a call that is refused at once, many lookups in one call against as many calls, and messages and counts against the
+/// check of a table.
 fn tables(measured: &Measured) -> String {
     let of = |runner| measured.outcomes.iter().filter(move |outcome| outcome.of(runner).is_some());
     let against_others = measured.outcomes.iter().filter(|outcome| is_against_others(outcome));

@@ -1,5 +1,5 @@
-//! Segment tables: lookups against the plain trie, a plain lookup in C, the image at stride 4 and the call alone, and
-//! many in one call against as many calls; and the build.
+//! Segment tables: lookups against the plain trie, a plain lookup in C with and without its checks, the image at stride 4
+//! and the call alone, and many in one call against as many calls; and the build.
 
 use super::lookups::{against_trie, in_one_call};
 use super::race::{Race, Runner};
@@ -20,14 +20,19 @@ pub fn races(subject: &Subject) -> Vec<Race<'_>> {
     ]
 }
 
+/// In one race with the trie also C that checks nothing: how near to it a call for each address can come at all.
 fn lookup(subject: &Subject) -> Race<'_> {
-    let [first, packed, plain, last] = &subject.segments;
+    let Subject { segments: [first, packed, plain, last], addresses, .. } = subject;
     against_trie(
         "segment lookup",
         subject,
         |address| calls::segments_lookup(first, packed, plain, last, address),
         |address| reference::segments_lookup(first, packed, plain, last, address),
     )
+    .runner(Runner::Unchecked, addresses.len(), move |number| {
+        // SAFETY: the stores are those that the library has built of the set.
+        unsafe { plain_segments::lookup_unchecked(first, packed, plain, last, addresses[number]) }.answer[1]
+    })
 }
 
 /// The proved library's lookup, which is to race another one.

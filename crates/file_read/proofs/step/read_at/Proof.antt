@@ -1,10 +1,19 @@
+use mathlib.Core.Path.{_∙_}
+use Prim.Native.Nat.{_≤_}
+use Rattle.octets.proofs.TakeReturns.{prefix-is}
 use Rattle.file_read.proofs.StepReturns.{read-is}
 use borrow.Author.Needs.{needs}
 use Rattle.file_read.proofs.step.read_at.Statement.{statement}
 use Rattle.file_read.proofs.step.read_at.Tie as tie
 
-prefix-at-requires : tie.Need-prefix-at-requires
-prefix-at-requires c κs = search needs
+length-at-requires : tie.Need-length-at-requires
+length-at-requires c κs = search needs
+
+add-prefix-from : tie.Need-add-prefix-from
+add-prefix-from c = search needs
+
+prefix-from-requires : tie.Need-prefix-from-requires
+prefix-from-requires c κs = search needs
 
 add-port-from : tie.Need-add-port-from
 add-port-from c = search needs
@@ -22,14 +31,20 @@ returns : tie.Need-returns
 returns c =
     let k = c .before in
     let q = k .before in
-    let a = q .before .before .args in
-    read-is 32 (a .file .now) (a .at) _ _ (q .prefix-at .ensures) (k .prefix-bytes .ensures .is) _ (c .port-from .ensures)
+    let l = q .before in
+    let e = l .before .before in
+    let file = e .args .file .now in
+    let len-is = l .length-at .ensures .is in
+    let short : l .length-at .result ≤ 32 = search needs in
+    read-is 32 file (e .args .at) _ len-is _ (q .prefix-from .ensures ∙ prefix-is 32 file (e .args .at) _ len-is short) _ (k .prefix-bytes .ensures .is) _ (c .port-from .ensures)
 
 pub read-at-spec : {M : Type 1} → statement M
 read-at-spec =
     tie.close
     (tie.spec
-    prefix-at-requires
+    length-at-requires
+    add-prefix-from
+    prefix-from-requires
     add-port-from
     prefix-bytes-requires
     add-port-from-2

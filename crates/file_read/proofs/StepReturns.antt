@@ -28,10 +28,11 @@ module _ (w : ℕ) (file : List ℕ) (at len : ℕ) (len-is : len ≡ lenAt file
   size-is : at + 1 + k ≡ at + prefixSize (lenAt file at)
   size-is = omega (arith, k-is ∙ ap (λ (l : ℕ). prefixBytes l) len-is)
 
-  pub read-is : (port : ℕ) → port ≡ portFrom file (at + 1 + k) → route (p .value) (p .len) port ≡ readAt w file at
+  pub read-is : (port : ℕ) → port ≡ portFrom file (at + 1 + k) → route (p .value) len port ≡ readAt w file at
   unfolding readAt
   read-is port port-is =
-      ap₂ (λ (q : Prefix) (n : ℕ). route (q .value) (q .len) n) p-is (port-is ∙ ap (portFrom file) size-is)
+      ap (λ (l : ℕ). route (p .value) l port) len-is
+      ∙ ap₂ (λ (q : Prefix) (n : ℕ). route (q .value) (lenAt file at) n) p-is (port-is ∙ ap (portFrom file) size-is)
 
 module _ (w : ℕ) (file : List ℕ) (c : Cursor) (frame : ℕ) (frame-is : frame ≡ frameFault w file (c .count) (c .at) 0) where
   refused-step : (m : ℕ) (a : Answer) → faultAfter w file c ≡ m → (m ≡ 0 → ⊥) → a ≡ refused m (c .at) → Refused a ≡ stepAt w file c

@@ -56,7 +56,7 @@ pub(crate) fn read_at(file: &[u8], at: usize) -> Route
     let port = port_from(file, at + 1 + prefix_bytes(len));
     Route {
         value: p.value,
-        len: p.len,
+        len,
         port,
     }
 }

@@ -1,13 +1,15 @@
 -- A number read byte by byte, shifted up to its place, and cleared past a length. Assumes nothing.
-use mathlib.Core.Path.{_≡_, refl, sym, ap, ap₂, _∙_}
+use mathlib.Core.Path.{_≡_, refl, sym, ap, ap₂, subst, _∙_}
+use mathlib.Core.Logic.{_⊎_, inl, inr}
 use mathlib.Core.List.{List, [], _∷_, _++_}
-use Prim.Native.Nat.{ℕ, zero, suc, _+_, _-_, _*_, _/_, _%_, _^_, _≤_, _<_}
+use Prim.Native.Nat.{ℕ, zero, suc, _+_, _-_, _*_, _/_, _%_, _^_, _≤_, _<_, min}
 use native.Mathlib.Omega.{arith}
 use native.Mathlib.Numerals.{add-one}
-use native.Mathlib.Nat.{add-zero, add-suc, div-one, mod-eq-of-lt}
+use native.Mathlib.Nat.{add-zero, add-suc, div-one, mod-eq-of-lt, min-eq-left, min-eq-right}
 use lib.Pow.{pow-add, pow-mono, shl-exact, shl-lt, shr-shr, high}
 use lib.ListN.{length, getD, take, drop, length-drop}
 use lib.Seq.{take-all, take-suc, getD-drop}
+use Rattle.lists.proofs.Tests.{lt-or-le}
 use Rattle.bits.specs.Prefix.{first}
 use Rattle.bits.proofs.Prefix.{first-first, first-le}
 use Rattle.octets.specs.Bytes.{number, Bytes}
@@ -40,14 +42,19 @@ module _ (bytes : List ℕ) (from : ℕ) where
       p = ap (λ (i : ℕ). 2 ^ i) z ∙ pow-add 2 8 (8 * j)
 
   -- of more bytes than there are, those that there are
-  pub number-cut : (k left r : ℕ) → left ≡ length bytes - from → left ≤ k → NumberAt bytes from left r → NumberAt bytes from k r
+  number-cut : (k left r : ℕ) → left ≡ length bytes - from → left ≤ k → NumberAt bytes from left r → NumberAt bytes from k r
   number-cut k left r e h n = record {
     is = n .is ∙ ap number (take-all left (drop from bytes) (omega (arith, length-drop from bytes)) ∙ sym (take-all k (drop from bytes) (omega (arith, length-drop from bytes))));
     small = omega (arith, n .small, pow-mono {i = 8 * left} {j = 8 * k} (omega arith));
   }
 
-  pub number-past : (k : ℕ) → length bytes ≤ from → NumberAt bytes from k 0
-  number-past k h = number-cut k 0 0 (omega arith) (omega arith) number-none
+  -- of k bytes, as many as there are
+  pub number-there : (k left there r : ℕ) → left ≡ length bytes - from → there ≡ min k left → NumberAt bytes from there r → NumberAt bytes from k r
+  number-there k left there r e m n = go (lt-or-le left k)
+    where
+      go : (left < k) ⊎ (k ≤ left) → NumberAt bytes from k r
+      go (inl h) = number-cut k left r e (omega arith) (subst (λ (j : ℕ). NumberAt bytes from j r) (m ∙ min-eq-right (omega arith)) n)
+      go (inr h) = subst (λ (j : ℕ). NumberAt bytes from j r) (m ∙ min-eq-left h) n
 
   -- fewer than four bytes leave room for one more
   pub number-room : (j sum : ℕ) → j < 4 → NumberAt bytes from j sum → sum < 2 ^ 24

@@ -1,6 +1,6 @@
 // Numbers as big-endian bytes, and a prefix as one length byte and the fewest bytes that hold it, read and written at an offset.
 ghost use mathlib.Core.Path.{_≡_};
-ghost use Prim.Native.Nat.{_+_, _^_, _≤_, _<_, min};
+ghost use Prim.Native.Nat.{_+_, _-_, _^_, _≤_, _<_, min};
 ghost use lib.Dec.{leb};
 ghost use lib.ListN.{length};
 ghost use Rattle.bits.specs.Prefix.{first};
@@ -48,9 +48,20 @@ fn are_there(count: usize, from: usize, k: usize) -> bool
     from <= count - k
 }
 
+// How many bytes there are from an offset on.
+fn left_from(bytes: &[u8], from: usize) -> usize
+    ensures { λ r. ⌜ r ≡ length (now (bytes .entry)) - from ⌝ }
+{
+    if from < bytes.len() {
+        bytes.len() - from
+    } else {
+        0
+    }
+}
+
 // The number that k bytes write, big-endian, where they are all there.
 fn number_of(bytes: &[u8], from: usize, k: usize) -> u64
-    requires { ⌜ (from + k ≤ length (now bytes)) × (k ≤ 4) ⌝ }
+    requires { ⌜ (k ≤ length (now bytes) - from) × (k ≤ 4) ⌝ }
     ensures { λ r. ⌜ NumberAt (now (bytes .entry)) from k r ⌝ }
 {
     let mut sum: u64 = 0;
@@ -66,11 +77,9 @@ fn number_of(bytes: &[u8], from: usize, k: usize) -> u64
 pub fn number_at(bytes: &[u8], from: usize, k: usize) -> u64
     ensures { λ r. ⌜ NumberAt (now (bytes .entry)) from (min k 4) r ⌝ }
 {
-    if bytes.len() <= from {
-        return 0;
-    }
-    let left = bytes.len() - from;
+    let left = left_from(bytes, from);
     let most = up_to(4, k);
+    // By two calls: where k is a constant, so is the number of turns in the second.
     if left < most {
         return number_of(bytes, from, left);
     }
@@ -102,12 +111,13 @@ fn value_from(bytes: &[u8], from: usize, len: u32) -> u32
     requires { ⌜ len ≤ 32 ⌝ }
     ensures { λ r. ⌜ r ≡ first 32 (valueFrom 32 (now (bytes .entry)) from len) len ⌝ }
 {
+    let left = left_from(bytes, from);
     // Four bytes at once where there are so many, and those past the prefix cleared too: no loop whose end must be guessed.
-    if are_there(bytes.len(), from, 4) {
+    if 4 <= left {
         return clear_past(number_of(bytes, from, 4), len);
     }
     let k = prefix_bytes(len);
-    let high = number_at(bytes, from, k);
+    let high = number_of(bytes, from, up_to(left, k));
     clear_past(high << (32 - 8 * k), len)
 }
 

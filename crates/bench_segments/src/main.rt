@@ -6,8 +6,8 @@ use refusals::found::Found;
 use routes::Route;
 use routes::store_route;
 use segment_build::build;
+use segment_entries::part_of;
 use segment_lookup::lookup;
-use segment_lookup::part_of;
 
 fn text(s: &[u8]) {
     io::write_all(STDOUT_FILENO, s);

@@ -12,7 +12,7 @@ use crate::replies::blocked;
 use crate::replies::located;
 use refusals::reply::counted;
 use refusals::reply::looked;
-use segment_lookup::part_of;
+use segment_entries::part_of;
 
 #[no_mangle]
 pub extern "C" fn mft_segments_build(

@@ -1,34 +1,22 @@
-// The lookup in segment tables, on whatever stores are lent: four words are read at most. And the debug page's call: where the entries of
-// a segment stand, and those entries.
+// The lookup in segment tables, on whatever stores are lent: four words are read at most.
 ghost use mathlib.Core.Path.{_≡_};
 ghost use Prim.Native.Nat.{_+_, _*_, _%_, _^_, _≤_, _<_};
 ghost use lib.ListN.{length};
 ghost use Rattle.segment_rules.specs.Packed.{packedSize};
 ghost use Rattle.segment_rules.specs.Lookup.{third, portRead, lastRead, entryRead, rank, rankRead, packedRead, plainRead, firstRead, lookupIn};
-ghost use Rattle.segment_lookup.specs.Handed.{Placed, Handed};
 use refusals::NOT_IN_ORDER;
 use refusals::found::Found;
 use routes::LAST_PORT;
 use segment_rules::BLOCK_SIZE;
 use segment_rules::CODEWORDS;
 use segment_rules::FIRST_SIZE;
+use segment_rules::MOST_KEPT;
 use segment_rules::PACKED_SIZE;
 use segment_rules::PLAIN_POINTER;
 use segment_rules::POINTER;
-use segment_rules::Part;
 use segment_rules::ones_through;
 
 pub mod many;
-
-// The entries of a packed block, after its codewords.
-const MOST_KEPT: usize = 64;
-
-// Where no entries stand.
-const NO_PART: Part = Part {
-    plain: false,
-    from: 0,
-    count: 0,
-};
 
 // An entry or a codeword as a number.
 fn word(x: u16) -> u32
@@ -156,51 +144,4 @@ pub fn lookup(first: &[u16], packed: &[u16], plain: &[u16], last: &[u16], addres
     }
     let at = wide(address / 65536);
     first_read(packed, plain, last, word(first[at]), address)
-}
-
-// Where the entries of a segment stand that an entry of the first table names, in stores of so many words: none where it names none, or
-// its block is past its store.
-pub fn part_of(packed: usize, plain: usize, entry: u32) -> Part
-    ensures { λ r. ⌜ Placed packed plain entry r ⌝ }
-{
-    if entry < POINTER {
-        return NO_PART;
-    }
-    if POINTER + POINTER <= entry {
-        return NO_PART;
-    }
-    if PLAIN_POINTER <= entry {
-        let from = wide(entry - PLAIN_POINTER) * BLOCK_SIZE;
-        if plain < from + BLOCK_SIZE {
-            return NO_PART;
-        }
-        return Part {
-            plain: true,
-            from,
-            count: BLOCK_SIZE,
-        };
-    }
-    let from = wide(entry - POINTER) * PACKED_SIZE;
-    if packed < from + PACKED_SIZE {
-        return NO_PART;
-    }
-    Part {
-        plain: false,
-        from: from + CODEWORDS,
-        count: MOST_KEPT,
-    }
-}
-
-// The entries themselves, where they stand: out of the plain store or the packed one, without copying.
-pub fn entries<'a>(packed: &'a [u16], plain: &'a [u16], entry: u32) -> &'a [u16]
-    ensures { λ r. ⌜ Handed (packed .entry) (plain .entry) entry r ⌝ }
-{
-    let p = part_of(packed.len(), plain.len(), entry);
-    let from = p.from;
-    let end = from + p.count;
-    if p.plain {
-        &plain[from..end]
-    } else {
-        &packed[from..end]
-    }
 }

@@ -24,8 +24,10 @@ pub struct Built {
 // The entries of a segment, of a plain block and of a last block.
 pub const BLOCK_SIZE: usize = 256;
 
-// The codewords of a packed block, and its words with the 64 entries after them.
+// The codewords of a packed block, the entries after them, and its words, which are both.
 pub const CODEWORDS: usize = 32;
+
+pub const MOST_KEPT: usize = 64;
 
 pub const PACKED_SIZE: usize = 96;
 

@@ -12,7 +12,7 @@ use Rattle.segment_rules.specs.declared.Part.{Part}
 use Rattle.segment_rules.specs.Packed.{blockSize, codewords, mostKept, packedSize}
 use Rattle.segment_rules.specs.Tables.{pointer, plainPointer}
 use Rattle.segment_rules.specs.Parts.{part, noPart, packedPart, plainPart, partOf, partWords, entriesOf}
-use Rattle.segment_lookup.specs.Handed.{Placed, Handed, liesAt}
+use Rattle.segment_entries.specs.Handed.{Placed, Handed, liesAt}
 
 module _ (packed plain entry : ℕ) where
   none-placed : noPart ≡ partOf packed plain entry → Placed packed plain entry noPart
@@ -26,36 +26,40 @@ module _ (packed plain entry : ℕ) where
   unfolding partOf
   placed-high h = none-placed (rw (le-leb pointer entry (omega arith), le-ltb entry (pointer + pointer) h))
 
-  -- w is the block's number, as the code has it
-  module _ (names : pointer ≤ entry) (word : entry < pointer + pointer) (w : ℕ) where
-    module _ (marked : plainPointer ≤ entry) (own : w ≡ entry - plainPointer) where
-      plain-named : partOf packed plain entry ≡ plainPart plain w
+  module _ (names : pointer ≤ entry) (word : entry < pointer + pointer) where
+    module _ (marked : plainPointer ≤ entry) where
+      abbrev plainStart : ℕ
+      plainStart = (entry - plainPointer) * blockSize
+
+      plain-named : partOf packed plain entry ≡ plainPart plain (entry - plainPointer)
       unfolding partOf
-      plain-named =
-          rw (le-leb pointer entry names, lt-ltb entry (pointer + pointer) word, le-ltb entry plainPointer marked, own)
+      plain-named = rw (le-leb pointer entry names, lt-ltb entry (pointer + pointer) word, le-ltb entry plainPointer marked)
 
-      pub placed-past-plain : plain < w * blockSize + blockSize → Placed packed plain entry noPart
-      placed-past-plain h = none-placed (rw (plain-named, lt-leb (w * blockSize + blockSize) plain h))
+      pub placed-past-plain : plain < plainStart + blockSize → Placed packed plain entry noPart
+      placed-past-plain h = none-placed (rw (plain-named, lt-leb (plainStart + blockSize) plain h))
 
-      pub placed-plain : w * blockSize + blockSize ≤ plain → Placed packed plain entry (part true (w * blockSize) blockSize)
+      pub placed-plain : plainStart + blockSize ≤ plain → Placed packed plain entry (part true plainStart blockSize)
       placed-plain h = record {
-        is = rw (plain-named, le-leb (w * blockSize + blockSize) plain h);
+        is = rw (plain-named, le-leb (plainStart + blockSize) plain h);
         within = omega arith;
         small = omega arith;
       }
 
-    module _ (unmarked : entry < plainPointer) (own : w ≡ entry - pointer) where
-      packed-named : partOf packed plain entry ≡ packedPart packed w
+    module _ (unmarked : entry < plainPointer) where
+      abbrev packedStart : ℕ
+      packedStart = (entry - pointer) * packedSize
+
+      packed-named : partOf packed plain entry ≡ packedPart packed (entry - pointer)
       unfolding partOf
       packed-named =
-          rw (le-leb pointer entry names, lt-ltb entry (pointer + pointer) word, lt-ltb entry plainPointer unmarked, own)
+          rw (le-leb pointer entry names, lt-ltb entry (pointer + pointer) word, lt-ltb entry plainPointer unmarked)
 
-      pub placed-past-packed : packed < w * packedSize + packedSize → Placed packed plain entry noPart
-      placed-past-packed h = none-placed (rw (packed-named, lt-leb (w * packedSize + packedSize) packed h))
+      pub placed-past-packed : packed < packedStart + packedSize → Placed packed plain entry noPart
+      placed-past-packed h = none-placed (rw (packed-named, lt-leb (packedStart + packedSize) packed h))
 
-      pub placed-packed : w * packedSize + packedSize ≤ packed → Placed packed plain entry (part false (w * packedSize + codewords) mostKept)
+      pub placed-packed : packedStart + packedSize ≤ packed → Placed packed plain entry (part false (packedStart + codewords) mostKept)
       placed-packed h = record {
-        is = rw (packed-named, le-leb (w * packedSize + packedSize) packed h);
+        is = rw (packed-named, le-leb (packedStart + packedSize) packed h);
         within = omega arith;
         small = omega arith;
       }

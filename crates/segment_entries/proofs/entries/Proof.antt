@@ -1,10 +1,10 @@
 use mathlib.Core.Path.{refl}
 use mathlib.Core.Bool.{true, false}
 use native.Mathlib.Omega.{arith}
-use Rattle.segment_lookup.proofs.Parts.{part-handed}
+use Rattle.segment_entries.proofs.Parts.{part-handed}
 use borrow.Author.Needs.{needs}
-use Rattle.segment_lookup.proofs.entries.Statement.{statement}
-use Rattle.segment_lookup.proofs.entries.Tie as tie
+use Rattle.segment_entries.proofs.entries.Statement.{statement}
+use Rattle.segment_entries.proofs.entries.Tie as tie
 
 part-of-requires : tie.Need-part-of-requires
 part-of-requires c κs = search needs

@@ -101,33 +101,33 @@ module _ (entries : List ℕ) where
     abbrev zeros : ℕ → List ℕ
     zeros k = replicate (mostKept - onesBelow entries k) 0
 
-    more-one : isOne entries i ≡ true → set (packedTo entries i) (31 + onesBelow entries (i + 1)) (getD entries i 0) ≡ packedTo entries (i + 1)
+    more-one : isOne entries i ≡ true → set (packedTo entries i) (codewords + (onesBelow entries (i + 1) - 1)) (getD entries i 0) ≡ packedTo entries (i + 1)
     more-one t =
         let next : onesBelow entries (i + 1) ≡ onesBelow entries i + 1 = number-pass (isOne entries) i t in
-        let place : 31 + onesBelow entries (i + 1) ≡ length front + length ks = omega (arith, next, length-front, length-kept entries i) in
+        let place : codewords + (onesBelow entries (i + 1) - 1) ≡ length front + length ks = omega (arith, next, length-front, length-kept entries i) in
         let left : mostKept - onesBelow entries i ≡ suc (mostKept - onesBelow entries (i + 1)) = omega (arith, next, room) in
         let one : zeros i ≡ 0 ∷ zeros (i + 1) = ap (λ (k : ℕ). replicate k 0) left in
         ap₂ (λ (zs : List ℕ) (k : ℕ). set (front ++ (ks ++ zs)) k (getD entries i 0)) one place
         ∙ set-after front ks (zeros (i + 1)) 0 (getD entries i 0)
         ∙ ap (λ (l : List ℕ). front ++ (l ++ zeros (i + 1))) (sym (gathered-pass (isOne entries) (λ j. getD entries j 0 ∷ []) i t))
 
-    more-none : isOne entries i ≡ false → set (packedTo entries i) (31 + onesBelow entries (i + 1)) (getD entries i 0) ≡ packedTo entries (i + 1)
+    more-none : isOne entries i ≡ false → set (packedTo entries i) (codewords + (onesBelow entries (i + 1) - 1)) (getD entries i 0) ≡ packedTo entries (i + 1)
     more-none t =
         let k : (j : ℕ) → i ≤ j → j < i + 1 → isOne entries j ≡ false = λ j u v. (let e : j ≡ i = omega arith in rw e t) in
         let same : onesBelow entries (i + 1) ≡ onesBelow entries i = number-skip (isOne entries) i 1 k in
         let still : packedTo entries (i + 1) ≡ packedTo entries i =
         ap₂ (λ (l : List ℕ) (m : ℕ). front ++ (l ++ replicate (mostKept - m) 0)) (gathered-skip (isOne entries) (λ j. getD entries j 0 ∷ []) i 1 k) same in
-        ap (λ (v : ℕ). set (packedTo entries i) (31 + onesBelow entries (i + 1)) v) (sym (there same))
-        ∙ set-getD (packedTo entries i) (31 + onesBelow entries (i + 1)) 0 ∙ sym still
+        ap (λ (v : ℕ). set (packedTo entries i) (codewords + (onesBelow entries (i + 1) - 1)) v) (sym (there same))
+        ∙ set-getD (packedTo entries i) (codewords + (onesBelow entries (i + 1) - 1)) 0 ∙ sym still
       where
         later : 0 < i
         later = not-first i t
 
-        there : onesBelow entries (i + 1) ≡ onesBelow entries i → getD (packedTo entries i) (31 + onesBelow entries (i + 1)) 0 ≡ getD entries i 0
+        there : onesBelow entries (i + 1) ≡ onesBelow entries i → getD (packedTo entries i) (codewords + (onesBelow entries (i + 1) - 1)) 0 ≡ getD entries i 0
         there same =
             let one : i - 1 + 1 ≡ i = omega (arith, later) in
             let some : 0 < onesBelow entries i = rw one at (ones-some entries (i - 1)) in
-            let place : 31 + onesBelow entries (i + 1) ≡ length front + (onesBelow entries i - 1) = omega (arith, same, some, length-front) in
+            let place : codewords + (onesBelow entries (i + 1) - 1) ≡ length front + (onesBelow entries i - 1) = omega (arith, same, some, length-front) in
             let at : getD ks (onesBelow entries i - 1) 0 ≡ getD entries (i - 1) 0 =
             rw one at (kept-at entries i (i - 1) (omega (arith, later))) in
             ap (λ (j : ℕ). getD (packedTo entries i) j 0) place
@@ -135,7 +135,7 @@ module _ (entries : List ℕ) where
             ∙ List·getD-append ks (zeros i) 0 (onesBelow entries i - 1) (omega (arith, some, length-kept entries i))
             ∙ at ∙ sym (entry-same entries i t)
 
-    pub packed-more : set (packedTo entries i) (31 + onesBelow entries (i + 1)) (getD entries i 0) ≡ packedTo entries (i + 1)
+    pub packed-more : set (packedTo entries i) (codewords + (onesBelow entries (i + 1) - 1)) (getD entries i 0) ≡ packedTo entries (i + 1)
     packed-more = ⊎-elim more-one more-none (way (isOne entries i))
 
   -- eight entries without a one
@@ -174,14 +174,17 @@ module _ (entries : List ℕ) (codes : Codes) (ok : Coded entries codes) (c : �
     rank-is : rank ≡ onesBelow entries (c * 8 + j + 1)
     rank-is = ranked ∙ rank-at entries codes (ok .is) (c * 8 + j) (omega arith)
 
-    pub place-lt : 31 + rank < length block
+    pub rank-some : 0 < rank
+    rank-some = omega (arith, rank-is, ones-some entries (c * 8 + j))
+
+    pub place-lt : codewords + (rank - 1) < length block
     place-lt =
         omega (arith, rank-is, room entries (ok .few) (c * 8 + j) (omega arith), ap length is, length-packed-to entries (ok .few) (c * 8 + j) (omega arith))
 
-    pub eight-more : set block (31 + rank) (getD entries (c * 8 + j) 0) ≡ packedTo entries (c * 8 + (j + 1))
+    pub eight-more : set block (codewords + (rank - 1)) (getD entries (c * 8 + j) 0) ≡ packedTo entries (c * 8 + (j + 1))
     eight-more =
         let z : c * 8 + j + 1 ≡ c * 8 + (j + 1) = omega arith in
-        ap₂ (λ (b : List ℕ) (r : ℕ). set b (31 + r) (getD entries (c * 8 + j) 0)) is rank-is
+        ap₂ (λ (b : List ℕ) (r : ℕ). set b (codewords + (r - 1)) (getD entries (c * 8 + j) 0)) is rank-is
         ∙ packed-more entries (ok .few) (c * 8 + j) (omega arith) ∙ ap (packedTo entries) z
 
 -- and the codewords

@@ -12,11 +12,9 @@ ghost use Rattle.segment_pack.specs.Needs.{Coded, packedTo};
 use entries::fill;
 use segment_rules::BLOCK_SIZE;
 use segment_rules::CODEWORDS;
+use segment_rules::MOST_KEPT;
 use segment_rules::PACKED_SIZE;
 use segment_rules::ones_through;
-
-// As many entries as a packed block has.
-const MOST_KEPT: u32 = 64;
 
 // The eight bits of each codeword, and the ones before them.
 struct Codes {
@@ -56,7 +54,7 @@ pub fn is_packed(entries: &[u16; 256]) -> bool
         ones += bit_of(entries, i);
         i += 1;
     }
-    ones <= MOST_KEPT
+    ones as usize <= MOST_KEPT
 }
 
 // The bits of the eight entries of codeword c, the first of them highest.
@@ -121,7 +119,7 @@ fn put_eight(block: &mut [u16], entries: &[u16; 256], codes: Codes, c: usize)
     while j < 8 {
         let i = c * 8 + j;
         let rank = rank_of(codes, i);
-        block[31 + rank] = entries[i];
+        block[CODEWORDS + (rank - 1)] = entries[i];
         j += 1;
     }
 }
@@ -151,7 +149,7 @@ pub fn pack(block: &mut [u16], entries: &[u16; 256])
         return;
     }
     let codes = codes_of(entries);
-    if MOST_KEPT < rank_of(codes, 255) as u32 {
+    if MOST_KEPT < rank_of(codes, 255) {
         return;
     }
     put_codes(block, entries, codes);

@@ -17,39 +17,30 @@ Inv-loop block₀ entries i₀ block i = (i ≤ 256) × (length block ≡ blockS
 abbrev μ-loop : tie.MeasureT-loop
 μ-loop block₀ entries i₀ block i = 256 - i
 
--- src/lib.rt:167:9
 returns : tie.Need-returns Inv-loop μ-loop
 returns c = copy-sized _ _ (c .if1 .taken)
 
--- src/lib.rt:170:5
 loop-holds : tie.Need-loop-holds Inv-loop μ-loop
 loop-holds c = (omega arith, c .if1 .left, words-none _ _)
 
--- src/lib.rt:171:20
 mul-block : tie.Need-mul-block Inv-loop μ-loop
 mul-block c = search needs
 
--- src/lib.rt:171:20
 element-copy-out-block : tie.Need-element-copy-out-block Inv-loop μ-loop
 element-copy-out-block c = search needs
 
--- src/lib.rt:171:9
 mul-block-2 : tie.Need-mul-block-2 Inv-loop μ-loop
 mul-block-2 c = search needs
 
--- src/lib.rt:171:9
 slice-write-block : tie.Need-slice-write-block Inv-loop μ-loop
 slice-write-block c = omega (arith, c .before .before .loop .inv .1)
 
--- src/lib.rt:172:9
 add-i : tie.Need-add-i Inv-loop μ-loop
 add-i c = search needs
 
--- src/lib.rt:170:5
 loop-less : tie.Need-loop-less Inv-loop μ-loop
 loop-less c = search needs
 
--- src/lib.rt:170:5
 loop-again : tie.Need-loop-again Inv-loop μ-loop
 loop-again c =
     let inv = c .before .before .loop .inv in
@@ -58,7 +49,6 @@ loop-again c =
 same-length : tie.Need-same-length Inv-loop μ-loop
 same-length c = c .before .loop .inv .1 ∙ sym (c .before .before .if1 .left)
 
--- src/lib.rt:163:1
 returns-2 : tie.Need-returns-2 Inv-loop μ-loop
 returns-2 c =
     let inv = c .before .loop .inv in

@@ -33,6 +33,9 @@ loop-less c = search needs
 loop-again : tie.Need-loop-again Inv-loop μ-loop
 loop-again c = (omega arith, omega (arith, c .bit-of .ensures .1), ones-more _ _ _ _ (c .before .before .loop .inv .2) (c .bit-of .ensures .0))
 
+cast-result : tie.Need-cast-result Inv-loop μ-loop
+cast-result c = search needs
+
 returns : tie.Need-returns Inv-loop μ-loop
 returns c =
     let e : c .before .loop .i ≡ 256 = omega (arith, c .before .loop .inv .0) in
@@ -50,4 +53,5 @@ is-packed-spec =
     add-i
     loop-less
     loop-again
+    cast-result
     returns)

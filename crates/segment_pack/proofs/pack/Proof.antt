@@ -8,46 +8,33 @@ use borrow.Author.Needs.{needs}
 use Rattle.segment_pack.proofs.pack.Statement.{statement}
 use Rattle.segment_pack.proofs.pack.Tie as tie
 
--- src/lib.rt:151:9
 returns : tie.Need-returns
 returns c = pack-sized _ _ (c .if1 .taken)
 
--- src/lib.rt:153:9
 codes-of-requires : tie.Need-codes-of-requires
 codes-of-requires c κs = search needs
 
--- src/lib.rt:154:20
 rank-of-requires : tie.Need-rank-of-requires
 rank-of-requires c κs = search needs
 
--- src/lib.rt:154:20
-cast-if2 : tie.Need-cast-if2
-cast-if2 c = search needs
-
--- src/lib.rt:155:9
 returns-2 : tie.Need-returns-2
 returns-2 c = pack-plain _ _ (c .before .before .before .if1 .left) _ (rank-all _ _ _ (c .before .before .codes-of .ensures) (c .before .rank-of .ensures .0)) (c .if2 .taken)
 
--- src/lib.rt:157:5
 put-codes-requires : tie.Need-put-codes-requires
 put-codes-requires c κs = (coded _ _ _ (c .before .before .before .codes-of .ensures) (c .before .before .rank-of .ensures .0) (c .before .if2 .left), c .before .before .before .before .if1 .left)
 
--- src/lib.rt:158:5
 fill-requires : tie.Need-fill-requires
 fill-requires c κs = search needs
 
--- src/lib.rt:159:5
 put-entries-requires : tie.Need-put-entries-requires
 put-entries-requires c κs = (
   coded _ _ _ (c .before .before .before .before .before .before .before .before .before .before .before .codes-of .ensures) (c .before .before .before .before .before .before .before .before .before .before .rank-of .ensures .0) (c .before .before .before .before .before .before .before .before .before .if2 .left),
   c .before .before .before .fill .ensures ∙ ap (λ (l : List ℕ). filled l codewords packedSize 0) (c .before .before .before .before .before .before .before .put-codes .ensures) ∙ packed-none _ _ (c .before .before .before .before .before .before .before .before .before .before .before .before .if1 .left),
 )
 
--- src/lib.rt:147:1
 same-length : tie.Need-same-length
 same-length c = search needs
 
--- src/lib.rt:147:1
 returns-3 : tie.Need-returns-3
 returns-3 c =
     c .before .before .put-entries .ensures
@@ -60,7 +47,6 @@ pack-spec =
     returns
     codes-of-requires
     rank-of-requires
-    cast-if2
     returns-2
     put-codes-requires
     fill-requires

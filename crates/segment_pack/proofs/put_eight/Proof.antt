@@ -4,7 +4,7 @@ use native.Mathlib.Omega.{arith}
 use lib.ListN.{length}
 use denote.Ref.{now}
 use Rattle.segment_pack.specs.Needs.{packedTo}
-use Rattle.segment_pack.proofs.Packed.{length-packed-to, eight-none, place-lt, eight-more}
+use Rattle.segment_pack.proofs.Packed.{length-packed-to, eight-none, rank-some, place-lt, eight-more}
 use borrow.Author.Needs.{needs}
 use Rattle.segment_pack.proofs.put_eight.Statement.{statement}
 use Rattle.segment_pack.proofs.put_eight.Tie as tie
@@ -32,6 +32,9 @@ mul-block c = search needs
 
 element-copy-out-block : tie.Need-element-copy-out-block Inv-loop μ-loop
 element-copy-out-block c = search needs
+
+sub-block : tie.Need-sub-block Inv-loop μ-loop
+sub-block c = rank-some _ _ (c .before .before .before .before .before .pre .0) _ (c .before .before .before .before .before .pre .1) _ (c .before .before .loop-test .taken) _ (c .before .before .before .loop .inv .1) _ (c .before .rank-of .ensures .0)
 
 add-block : tie.Need-add-block Inv-loop μ-loop
 add-block c = omega (arith, c .before .rank-of .ensures .1)
@@ -75,6 +78,7 @@ put-eight-spec =
     rank-of-requires
     mul-block
     element-copy-out-block
+    sub-block
     add-block
     mul-block-2
     slice-write-block

@@ -15,50 +15,39 @@ Inv-loop block₀ entries codes c₀ block c = (c ≤ 32) × (block ≡ packedTo
 abbrev μ-loop : tie.MeasureT-loop
 μ-loop block₀ entries codes c₀ block c = 32 - c
 
--- src/lib.rt:135:5
 loop-holds : tie.Need-loop-holds Inv-loop μ-loop
 loop-holds c = (omega arith, c .before .pre .1)
 
--- src/lib.rt:137:9
 add-c : tie.Need-add-c Inv-loop μ-loop
 add-c c = search needs
 
--- src/lib.rt:138:12
 mul-if1 : tie.Need-mul-if1 Inv-loop μ-loop
 mul-if1 c = search needs
 
--- src/lib.rt:138:12
 element-copy-out-if1 : tie.Need-element-copy-out-if1 Inv-loop μ-loop
 element-copy-out-if1 c = search needs
 
--- src/lib.rt:135:5
 loop-less : tie.Need-loop-less Inv-loop μ-loop
 loop-less c = search needs
 
--- src/lib.rt:135:5
 loop-again : tie.Need-loop-again Inv-loop μ-loop
 loop-again c = (omega arith, skip-more _ _ (c .before .before .before .before .before .pre .0) _ (c .before .before .loop-test .taken) _ (c .before .before .before .loop .inv .1) (c .if1 .taken))
 
--- src/lib.rt:141:9
 put-eight-requires : tie.Need-put-eight-requires Inv-loop μ-loop
 put-eight-requires c κs = (c .before .before .before .before .before .before .pre .0, c .before .before .before .loop-test .taken, c .before .before .before .before .loop .inv .1)
 
--- src/lib.rt:135:5
 loop-less-2 : tie.Need-loop-less-2 Inv-loop μ-loop
 loop-less-2 c = search needs
 
--- src/lib.rt:135:5
 loop-again-2 : tie.Need-loop-again-2 Inv-loop μ-loop
 loop-again-2 c = (omega arith, all-more _ _ _ (c .before .before .put-eight .ensures))
 
--- src/lib.rt:130:1
 same-length : tie.Need-same-length Inv-loop μ-loop
 same-length c =
     let few = c .before .before .before .pre .0 .few in
     ap length (c .before .loop .inv .1) ∙ length-packed-to _ few _ (omega (arith, c .before .loop .inv .0))
     ∙ sym (ap length (c .before .before .before .pre .1) ∙ length-packed-to _ few 0 (omega arith))
 
--- src/lib.rt:130:1
 returns : tie.Need-returns Inv-loop μ-loop
 returns c =
     let a = c .before .before .before .args in

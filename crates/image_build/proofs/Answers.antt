@@ -17,7 +17,7 @@ use Rattle.routes.proofs.Check.{accepted-valid}
 use Rattle.image_rules.specs.Node.{nodeSize}
 use Rattle.image_rules.specs.Image.{imagePaths, imageNodes, imagePorts}
 use Rattle.image_rules.specs.Lookup.{isStride, Strided}
-use Rattle.image_nodes.proofs.Slots.{stride-of}
+use Rattle.image_numbers.proofs.Slots.{stride-of}
 use Rattle.image_stretch.specs.Count.{nodesCount}
 use Rattle.image_stretch.proofs.Room.{sizes}
 use Rattle.image_count.specs.Counted.{countedNodes, mostNodes}

@@ -15,7 +15,7 @@ use Rattle.lists.specs.Numbered.{listOf}
 use Rattle.entries.specs.Entries.{filled}
 use Rattle.entries.proofs.Filled.{stretch-none, filled-within}
 use Rattle.image_rules.specs.Breadth.{Slot, leaf, nonLeaf, slotPorts}
-use Rattle.image_nodes.specs.declared.Leaf.{Leaf}
+use Rattle.image_numbers.specs.declared.Leaf.{Leaf}
 use Rattle.image_stretch.specs.declared.Stretch.{Stretch}
 use Rattle.image_stretch.specs.declared.Filled.{Filled}
 use Rattle.image_stretch.specs.Memory.{filledLeaves, owed, keptAfter}

@@ -5,8 +5,8 @@ use Prim.Native.Nat.{ℕ, _+_, _*_}
 use native.Mathlib.Nat.{add-zero}
 use Rattle.routes.specs.declared.Route.{Route}
 use Rattle.image_rules.specs.Breadth.{Slot, leaf, nonLeaf}
-use Rattle.image_nodes.specs.declared.Node.{Node}
-use Rattle.image_nodes.specs.declared.Leaf.{Leaf}
+use Rattle.image_numbers.specs.declared.Node.{Node}
+use Rattle.image_numbers.specs.declared.Leaf.{Leaf}
 use Rattle.image_stretch.specs.declared.Stretch.{Stretch}
 use Rattle.image_stretch.specs.declared.Filled.{Filled}
 use Rattle.image_stretch.specs.Stretches.{goesOn, leafPort, slotIn, slotFirst, stretchAt}

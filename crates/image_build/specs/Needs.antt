@@ -5,7 +5,7 @@ use Prim.Native.Nat.{ℕ, _+_, _-_, _*_, _^_, _≤_, _<_}
 use lib.ListN.{length}
 use Rattle.routes.specs.Routes.{routeAt, ValidList}
 use Rattle.image_rules.specs.Node.{nodeSize}
-use Rattle.image_nodes.specs.Needs.{Stride}
+use Rattle.image_numbers.specs.Needs.{Stride}
 use Rattle.image_stretch.specs.Count.{nodesCount}
 use Rattle.image_count.specs.Counted.{mostNodes}
 

@@ -16,12 +16,12 @@ ghost use Rattle.image_stretch.specs.Memory.{inHalves, pending, pendingAt, free
 ghost use Rattle.image_stretch.specs.Needs.{Fits, Buildable, Queue};
 ghost use Rattle.image_build.specs.Needs.{mostSlots, ImageRoom};
 use entries::fill;
-use image_nodes::Distance;
-use image_nodes::Leaf;
-use image_nodes::Node;
 use image_nodes::NodeWords;
 use image_nodes::node_at;
 use image_nodes::store_node;
+use image_numbers::Distance;
+use image_numbers::Leaf;
+use image_numbers::Node;
 use image_search::address_of;
 use image_search::find_slot;
 use image_search::goes_on;

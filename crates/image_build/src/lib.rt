@@ -4,8 +4,8 @@ ghost use Rattle.image_build.specs.Build.{left, refusedBuild, doneBuild,
 use fill::write_image;
 use image_count::count_nodes;
 use image_nodes::NODE_SIZE;
-use image_nodes::is_stride;
-use image_nodes::slots_of;
+use image_numbers::is_stride;
+use image_numbers::slots_of;
 use refusals::NO_ROOM;
 use refusals::WRONG_STRIDE;
 use routes::ROUTE_SIZE;

@@ -5,7 +5,7 @@ ghost use Rattle.routes.specs.Bounds.{mostRoutes};
 ghost use Rattle.routes.specs.Routes.{routeAt};
 ghost use Rattle.image_stretch.specs.Count.{countAt, countBelow, nodesCount};
 ghost use Rattle.image_count.specs.Counted.{countedNodes};
-use image_nodes::is_stride;
+use image_numbers::is_stride;
 use prefix::Prefix;
 use routes::MOST_ROUTES;
 use routes::ROUTE_SIZE;

@@ -14,7 +14,8 @@ use Rattle.refusals.specs.Refusals.{notInOrder, lost}
 use Rattle.image_rules.specs.Node.{nodeCount, isNode, bitmapOf, baseOf, isBased}
 use Rattle.image_rules.specs.Lookup.{leafAt, addressSlot, childAt, isSound, walk, lookupWords}
 use Rattle.image_rules.proofs.Walk.{walk-leaf, walk-child}
-use Rattle.image_nodes.specs.Needs.{Lent, Stride}
+use Rattle.image_numbers.specs.Needs.{Stride}
+use Rattle.image_nodes.specs.Needs.{Lent}
 use Rattle.image_lookup.specs.Needs.{mostSlotsBefore, Counted}
 
 -- a bitmap with nothing above its n lowest bits, and one with something there

@@ -2,7 +2,7 @@
 ghost use mathlib.Core.Path.{_≡_};
 ghost use Rattle.promise.specs.Over.{outcome};
 ghost use Rattle.image_rules.specs.Lookup.{lookupWords};
-ghost use Rattle.image_nodes.specs.Needs.{Stride};
+ghost use Rattle.image_numbers.specs.Needs.{Stride};
 ghost use Rattle.many_rules.specs.Many.{lookupMany};
 ghost use Rattle.image_lookup.specs.Many.{manyWords};
 use crate::descend;

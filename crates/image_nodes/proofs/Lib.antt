@@ -1,4 +1,3 @@
 -- Laws of this layer that belong to no one function.
 pub mod Nodes
-pub mod Slots
 pub mod Unique

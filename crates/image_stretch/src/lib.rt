@@ -1,6 +1,6 @@
 // A node of the image as a stretch of the sorted route list, and the memory of a builder whose queue is the nodes lent.
-use image_nodes::Leaf;
-use image_nodes::Node;
+use image_numbers::Leaf;
+use image_numbers::Node;
 
 // What half a word holds: of a node still to do, the first and the last of its routes, its depth, and its port.
 pub const HALF_WORD: u32 = 65536;

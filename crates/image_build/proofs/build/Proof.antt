@@ -2,7 +2,7 @@ use mathlib.Core.Path.{sym, _∙_}
 use native.Mathlib.Omega.{arith}
 use denote.Ref.{now}
 use Rattle.image_rules.proofs.Strides.{strided}
-use Rattle.image_nodes.proofs.Slots.{stride-of, slots-found, slots-pos}
+use Rattle.image_numbers.proofs.Slots.{stride-of, slots-found, slots-pos}
 use Rattle.image_build.proofs.Answers.{leaves-few, build-wrong-stride, build-refused, build-no-nodes, build-no-ports, build-done, room-of}
 use borrow.Author.Needs.{needs}
 use Rattle.image_build.proofs.build.Statement.{statement}

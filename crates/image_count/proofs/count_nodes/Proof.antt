@@ -2,7 +2,7 @@ use mathlib.Core.Path.{sym, _∙_}
 use denote.Ref.{now}
 use borrow.Author.Tests.{leb-true}
 use Rattle.lists.proofs.Tests.{both}
-use Rattle.image_nodes.proofs.Slots.{stride-bounds}
+use Rattle.image_numbers.proofs.Slots.{stride-bounds}
 use Rattle.image_count.proofs.Few.{counted-by}
 use borrow.Author.Needs.{needs}
 use Rattle.image_count.proofs.count_nodes.Statement.{statement}

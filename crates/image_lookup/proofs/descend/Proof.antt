@@ -1,4 +1,4 @@
-use Rattle.image_nodes.proofs.Slots.{slots-found, slots-pos}
+use Rattle.image_numbers.proofs.Slots.{slots-found, slots-pos}
 use Rattle.image_lookup.proofs.Turns.{Going, going-none, going-more, stride-off, turn-outside, turn-wide, turn-unbased, turn-leaf, turn-child, turn-none, shr-zero→lt, ones-le}
 use mathlib.Core.Path.{_∙_, sym, refl}
 use native.Mathlib.Omega.{arith}

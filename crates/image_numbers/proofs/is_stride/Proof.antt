@@ -1,6 +1,6 @@
 use borrow.Author.Tests.{eq-eqb, ne-eqb}
-use Rattle.image_nodes.proofs.is_stride.Statement.{statement}
-use Rattle.image_nodes.proofs.is_stride.Tie as tie
+use Rattle.image_numbers.proofs.is_stride.Statement.{statement}
+use Rattle.image_numbers.proofs.is_stride.Tie as tie
 
 returns : tie.Need-returns
 returns c = simp (eq-eqb _ _ (c .if1 .taken))

@@ -3,10 +3,10 @@ use Prim.Native.Nat.{_^_}
 use native.Mathlib.Nat.{one-mul}
 use native.Mathlib.Omega.{arith}
 use lib.Pow.{pow-mono, shl-exact}
-use Rattle.image_nodes.proofs.Slots.{stride-bounds, slots-is}
+use Rattle.image_numbers.proofs.Slots.{stride-bounds, slots-is}
 use borrow.Author.Needs.{needs}
-use Rattle.image_nodes.proofs.slots_of.Statement.{statement}
-use Rattle.image_nodes.proofs.slots_of.Tie as tie
+use Rattle.image_numbers.proofs.slots_of.Statement.{statement}
+use Rattle.image_numbers.proofs.slots_of.Tie as tie
 
 is-stride-requires : tie.Need-is-stride-requires
 is-stride-requires c κs = search needs

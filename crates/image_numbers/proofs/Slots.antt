@@ -6,8 +6,8 @@ use native.Mathlib.Omega.{arith}
 use lib.Pow.{pow-pos}
 use borrow.Author.Tests.{ne-eqb}
 use Rattle.image_rules.specs.Lookup.{isStride}
-use Rattle.image_nodes.specs.Slots.{slotsOf}
-use Rattle.image_nodes.specs.Needs.{Stride}
+use Rattle.image_numbers.specs.Slots.{slotsOf}
+use Rattle.image_numbers.specs.Needs.{Stride}
 
 -- a stride is 1, 2 or 4
 pub stride-bounds : (s : ℕ) → isStride s ≡ true → (0 < s) × (s ≤ 4)

@@ -2,7 +2,7 @@
 use mathlib.Core.Path.{_≡_, refl, sym, ap, _∙_}
 use mathlib.Core.Bool.{Bool, true, false, _&&_}
 use mathlib.Core.List.{List, [], _++_}
-use Prim.Native.Nat.{ℕ, _*_, _/_, _≤_, _<_}
+use Prim.Native.Nat.{ℕ, _*_, _≤_, _<_}
 use native.Mathlib.Omega.{arith}
 use lib.Dec.{leb}
 use lib.ListN.{length, drop}
@@ -15,15 +15,16 @@ use Rattle.lists.specs.Numbered.{listOf}
 use Rattle.lists.proofs.Numbered.{length-list-of, list-of-same}
 use Rattle.refusals.specs.Refusals.{noRoom}
 use Rattle.refusals.specs.declared.Answer.{Answer}
-use Rattle.routes.specs.Routes.{routeAt, routeCount, ValidList, Words}
+use Rattle.routes.specs.Routes.{routeAt, routeCount, Words}
 use Rattle.routes.specs.Check.{listCheck}
 use Rattle.routes.specs.Scan.{scanOf}
 use Rattle.routes.specs.declared.Route.{Route}
 use Rattle.routes.proofs.Check.{accepted-valid}
 use Rattle.routes.proofs.Scan.{scan-le}
-use Rattle.runs_rules.specs.Runs.{runWords}
-use Rattle.runs_rules.specs.Listing.{listed, writeRuns}
-use Rattle.runs_rules.proofs.Listing.{listed-lists, listed-few}
+use Rattle.runs_rules.specs.Runs.{runSize, runWords}
+use Rattle.runs_rules.specs.Listing.{listed, listRuns}
+use Rattle.runs_rules.specs.Theorems.{mostRuns}
+use Rattle.runs_rules.proofs.Listing.{listed-lists, never-too-many, list-runs-refused, list-runs-roomy, number-list-runs-roomy}
 use Rattle.segment_rules.specs.Blocks.{portAt}
 use Rattle.segment_rules.specs.Packed.{blockSize, packedSize}
 use Rattle.segment_rules.specs.Tables.{firstSize, firstTable, packedStore, plainStore, lastStore}
@@ -76,77 +77,76 @@ module _ (R : ℕ → Route) (n : ℕ) (runs : List ℕ) (s : Stores) (room : Ta
       f .first-is ∙ ap (over (firstTable R n)) ported ∙ over-over (firstTable R n) ports (s .first) (length-first R n ∙ sym length-ports) in
       λ j. stores (first-is j) (f .packed-is j) (f .plain-is j) (l j)
 
--- the runs of a valid list tell the port of each address
-module _ (R : ℕ → Route) (n : ℕ) (ok : ValidList 32 R n) where
-  runs-written : (lent runs : List ℕ) (r : Answer) → length lent ≡ 24579 → outcome r runs ≡ writeRuns (listed 32 R n) lent
-      → runs ≡ over (runWords (listed 32 R n)) lent
-  unfolding writeRuns
-  runs-written lent runs r size e =
-      let few : length (listed 32 R n) ≤ length lent / 3 = omega (arith, listed-few 32 R n, ok .few) in
-      ap (λ (o : Outcome Answer). o .lent) e ∙ rw (le-leb (length (listed 32 R n)) (length lent / 3) few)
+-- what is tested of the stores, and what is answered
+module _ (R : ℕ → Route) (n : ℕ) (s : Stores) (room : firstSize ≤ length (s .first)) (w : Walk) (counted : Counted R n w) (there : Bool)
+    (tested : there ≡ (leb (w .packed * packedSize) (length (s .packed)) && leb (w .plain * blockSize) (length (s .plain)) && leb (w .last * blockSize) (length (s .last)))) where
+  have-room-is : haveRoom R n s ≡ there
+  have-room-is =
+      let p : length (packedStore R n) ≡ w .packed * packedSize = length-packed-store R n ∙ ap (λ (k : ℕ). k * packedSize) (sym (counted .packed-are)) in
+      let q : length (plainStore R n) ≡ w .plain * blockSize = length-plain-store R n ∙ ap (λ (k : ℕ). k * blockSize) (sym (counted .plain-are)) in
+      let l : length (lastStore R n) ≡ w .last * blockSize = length-last-store R n ∙ ap (λ (k : ℕ). k * blockSize) (sym (counted .last-are)) in
+      let f : leb (length (firstTable R n)) (length (s .first)) ≡ true = le-leb (length (firstTable R n)) (length (s .first)) (omega (arith, length-first R n)) in
+      rw (f, p, q, l) (sym tested)
 
-  pub ready-of : (lent runs : List ℕ) (r : Answer) → length lent ≡ 24579 → outcome r runs ≡ writeRuns (listed 32 R n) lent → Ready R n runs
-  ready-of lent runs r size e = record {
-    valid = ok;
-    ported = λ a h.
-        rw (runs-written lent runs r size e)
-        (listing-port (scanOf 32 R n) (listed 32 R n) lent (listed-lists 32 R n) (λ x. omega (arith, scan-le 32 R n ok x))
-        (omega (arith, listed-few 32 R n, ok .few)) a h);
-  }
+  pub tables-room : (runs : List ℕ) → Ready R n runs → there ≡ true → TablesRoom R n runs s
+  tables-room runs ready t =
+      let all = sym tested ∙ t in
+      let a = both (leb (w .packed * packedSize) (length (s .packed)) && leb (w .plain * blockSize) (length (s .plain))) (leb (w .last * blockSize) (length (s .last))) all in
+      let b = both (leb (w .packed * packedSize) (length (s .packed))) (leb (w .plain * blockSize) (length (s .plain))) (a .0) in
+      record {
+        ready = ready;
+        first-room = room;
+        packed-room = omega (arith, leb-true (w .packed * packedSize) (length (s .packed)) (b .0), counted .packed-are);
+        plain-room = omega (arith, leb-true (w .plain * blockSize) (length (s .plain)) (b .1), counted .plain-are);
+        last-room = omega (arith, leb-true (w .last * blockSize) (length (s .last)) (a .1), counted .last-are);
+      }
 
-  -- what is tested of the stores, and what is answered
-  module _ (s : Stores) (room : firstSize ≤ length (s .first)) (w : Walk) (counted : Counted R n w) (there : Bool)
-      (tested : there ≡ (leb (w .packed * packedSize) (length (s .packed)) && leb (w .plain * blockSize) (length (s .plain)) && leb (w .last * blockSize) (length (s .last)))) where
-    have-room-is : haveRoom R n s ≡ there
-    have-room-is =
-        let p : length (packedStore R n) ≡ w .packed * packedSize = length-packed-store R n ∙ ap (λ (k : ℕ). k * packedSize) (sym (counted .packed-are)) in
-        let q : length (plainStore R n) ≡ w .plain * blockSize = length-plain-store R n ∙ ap (λ (k : ℕ). k * blockSize) (sym (counted .plain-are)) in
-        let l : length (lastStore R n) ≡ w .last * blockSize = length-last-store R n ∙ ap (λ (k : ℕ). k * blockSize) (sym (counted .last-are)) in
-        let f : leb (length (firstTable R n)) (length (s .first)) ≡ true = le-leb (length (firstTable R n)) (length (s .first)) (omega (arith, length-first R n)) in
-        rw (f, p, q, l) (sym tested)
+  pub into-written : there ≡ true → (t : Stores) → t ≡ tablesOver R n s → (b : Built) → b ≡ doneBuild (w .packed) (w .plain) (w .last)
+      → left b t ≡ segmentsInto R n s
+  unfolding segmentsInto
+  into-written h t e b f =
+      rw (have-room-is, h)
+      (λ j. left ((f ∙ (λ i. doneBuild (counted .packed-are i) (counted .plain-are i) (counted .last-are i))) j) (e j))
 
-    pub tables-room : (runs : List ℕ) → Ready R n runs → there ≡ true → TablesRoom R n runs s
-    tables-room runs ready t =
-        let all = sym tested ∙ t in
-        let a = both (leb (w .packed * packedSize) (length (s .packed)) && leb (w .plain * blockSize) (length (s .plain))) (leb (w .last * blockSize) (length (s .last))) all in
-        let b = both (leb (w .packed * packedSize) (length (s .packed))) (leb (w .plain * blockSize) (length (s .plain))) (a .0) in
-        record {
-          ready = ready;
-          first-room = room;
-          packed-room = omega (arith, leb-true (w .packed * packedSize) (length (s .packed)) (b .0), counted .packed-are);
-          plain-room = omega (arith, leb-true (w .plain * blockSize) (length (s .plain)) (b .1), counted .plain-are);
-          last-room = omega (arith, leb-true (w .last * blockSize) (length (s .last)) (a .1), counted .last-are);
-        }
+  pub into-short : there ≡ false → (b : Built) → b ≡ refusedBuild noRoom 0 → left b s ≡ segmentsInto R n s
+  unfolding segmentsInto
+  into-short h b f = rw (have-room-is, h) (ap (λ (x : Built). left x s) f)
 
-    pub into-written : there ≡ true → (t : Stores) → t ≡ tablesOver R n s → (b : Built) → b ≡ doneBuild (w .packed) (w .plain) (w .last)
-        → left b t ≡ segmentsInto R n s
-    unfolding segmentsInto
-    into-written h t e b f =
-        rw (have-room-is, h)
-        (λ j. left ((f ∙ (λ i. doneBuild (counted .packed-are i) (counted .plain-are i) (counted .last-are i))) j) (e j))
+-- what a build answers: the runs of the list are asked for in room for as many as a list can have
+module _ (list lent runs : List ℕ) (listing : Answer) (fits : Words 32 list) (size : length lent ≡ mostRuns * runSize)
+    (is : outcome listing runs ≡ listRuns 32 list lent) (s : Stores) where
+  number-is : listing .number ≡ listCheck 32 list .number
+  number-is = ap (λ (o : Outcome Answer). o .answer .number) is ∙ number-list-runs-roomy 32 list lent fits (omega (arith, size))
 
-    pub into-short : there ≡ false → (b : Built) → b ≡ refusedBuild noRoom 0 → left b s ≡ segmentsInto R n s
-    unfolding segmentsInto
-    into-short h b f = rw (have-room-is, h) (ap (λ (x : Built). left x s) f)
-
--- what a build answers
-module _ (list : List ℕ) (s : Stores) (checked : Answer) (is : checked ≡ listCheck 32 list) where
-  pub build-refused : (checked .number ≡ 0 → ⊥) → (b : Built) → b ≡ refusedBuild (checked .number) (checked .place) → left b s ≡ buildSegments list s
+  pub build-refused : (listing .number ≡ 0 → ⊥) → (b : Built) → b ≡ refusedBuild (listing .number) (listing .place) → left b s ≡ buildSegments list s
   unfolding buildSegments
   build-refused f b e =
-      let n : listCheck 32 list .number ≡ 0 → ⊥ = λ z. f (ap (λ (a : Answer). a .number) is ∙ z) in
-      rw (ne-eqb (listCheck 32 list .number) 0 n)
-      (ap (λ (x : Built). left x s) (e ∙ ap (λ (a : Answer). refusedBuild (a .number) (a .place)) is))
+      let wrong : listCheck 32 list .number ≡ 0 → ⊥ = λ z. f (number-is ∙ z) in
+      let checked : listing ≡ listCheck 32 list = ap (λ (o : Outcome Answer). o .answer) (is ∙ list-runs-refused 32 list lent wrong) in
+      rw (ne-eqb (listCheck 32 list .number) 0 wrong)
+      (ap (λ (x : Built). left x s) (e ∙ ap (λ (a : Answer). refusedBuild (a .number) (a .place)) checked))
 
-  module _ (z : checked .number ≡ 0) where
+  module _ (z : listing .number ≡ 0) where
     accepted-number : listCheck 32 list .number ≡ 0
-    accepted-number = sym (ap (λ (a : Answer). a .number) is) ∙ z
+    accepted-number = sym number-is ∙ z
+
+    pub runs-ready : Ready (routeAt list) (routeCount list) runs
+    runs-ready =
+        let R = routeAt list in
+        let n = routeCount list in
+        let ok = accepted-valid 32 list fits accepted-number in
+        let written : runs ≡ over (runWords (listed 32 R n)) lent =
+        ap (λ (o : Outcome Answer). o .lent) (is ∙ list-runs-roomy 32 list lent fits (omega (arith, size)) accepted-number) in
+        record {
+          valid = ok;
+          ported = λ a h.
+              rw written
+              (listing-port (scanOf 32 R n) (listed 32 R n) lent (listed-lists 32 R n) (λ x. omega (arith, scan-le 32 R n ok x))
+              (omega (arith, never-too-many 32 R n ok, size)) a h);
+        }
 
     pub build-is-into : {b : Left} → b ≡ segmentsInto (routeAt list) (routeCount list) s → b ≡ buildSegments list s
     build-is-into e = e ∙ sym (build-into list s accepted-number)
-
-    pub list-valid : Words 32 list → ValidList 32 (routeAt list) (routeCount list)
-    list-valid fits = accepted-valid 32 list fits accepted-number
 
     pub build-no-first : length (s .first) < firstSize → (b : Built) → b ≡ refusedBuild noRoom 0 → left b s ≡ buildSegments list s
     unfolding segmentsInto

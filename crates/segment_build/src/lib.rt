@@ -5,16 +5,16 @@ ghost use mathlib.Core.Bool.{_&&_};
 ghost use Prim.Native.Nat.{_*_, _≤_};
 ghost use lib.Dec.{leb};
 ghost use lib.ListN.{length};
-ghost use Rattle.routes.specs.Routes.{routeAt, ValidList};
+ghost use Rattle.routes.specs.Routes.{routeAt};
 ghost use Rattle.segment_rules.specs.Packed.{blockSize, packedSize};
 ghost use Rattle.segment_rules.specs.Tables.{firstSize};
 ghost use Rattle.segment_rules.specs.Build.{stores, left, refusedBuild, doneBuild, segmentsInto, buildSegments};
+ghost use Rattle.segment_build.specs.Needs.{Ready};
 use list_runs::RUN_SIZE;
-use list_runs::write_runs;
+use list_runs::list_runs;
 use refusals::NO_ROOM;
 use routes::MOST_ROUTES;
 use routes::ROUTE_SIZE;
-use routes::check_list;
 use segment_rules::BLOCK_SIZE;
 use segment_rules::Built;
 use segment_rules::FIRST_SIZE;
@@ -66,24 +66,23 @@ fn have_room(counts: Walk, packed: usize, plain: usize, last: usize) -> bool
         & (counts.last * BLOCK_SIZE <= last)
 }
 
-// The tables of a list that is known to be valid, where the first table has room. The blocks are counted first, so that a refusal writes
-// nothing.
+// The tables of a list that is known to be valid, by its runs, where the first table has room. The blocks are counted first, so that a
+// refusal writes nothing.
 fn build_valid(
     list: &[u32],
     n: usize,
+    runs: &[u32],
     first: &mut [u16],
     packed: &mut [u16],
     plain: &mut [u16],
     last: &mut [u16],
 ) -> Built
-    requires { ⌜ ValidList 32 (routeAt (now list)) n × (firstSize ≤ length (now first)) ⌝ }
+    requires { ⌜ Ready (routeAt (now list)) n (now runs) × (firstSize ≤ length (now first)) ⌝ }
     ensures { λ r. ⌜ left r (stores (now (first .exit)) (now (packed .exit)) (now (plain .exit)) (now (last .exit))) ≡ segmentsInto (routeAt (now (list .entry))) n (stores (now (first .entry)) (now (packed .entry)) (now (plain .entry)) (now (last .entry))) ⌝ }
 {
-    let mut runs = [0u32; RUNS_SIZE];
-    write_runs(list, n, &mut runs);
-    let counts = count_segments(list, n, &runs);
+    let counts = count_segments(list, n, runs);
     if have_room(counts, packed.len(), plain.len(), last.len()) {
-        write_tables(list, n, &runs, first, packed, plain, last);
+        write_tables(list, n, runs, first, packed, plain, last);
         return done(
             counts.packed as u32,
             counts.plain as u32,
@@ -105,12 +104,22 @@ pub fn build(
 ) -> Built
     ensures { λ r. ⌜ left r (stores (now (first .exit)) (now (packed .exit)) (now (plain .exit)) (now (last .exit))) ≡ buildSegments (now (list .entry)) (stores (now (first .entry)) (now (packed .entry)) (now (plain .entry)) (now (last .entry))) ⌝ }
 {
-    let checked = check_list(list);
-    if checked.number != 0 {
-        return refused(checked.number, checked.place);
+    let mut runs = [0u32; RUNS_SIZE];
+    // There is room for all runs that a list can have, so that this refuses a list that its check refuses, and no other.
+    let listed = list_runs(list, &mut runs);
+    if listed.number != 0 {
+        return refused(listed.number, listed.place);
     }
     if first.len() < FIRST_SIZE {
         return refused(NO_ROOM, 0);
     }
-    build_valid(list, list.len() / ROUTE_SIZE, first, packed, plain, last)
+    build_valid(
+        list,
+        list.len() / ROUTE_SIZE,
+        &runs,
+        first,
+        packed,
+        plain,
+        last,
+    )
 }

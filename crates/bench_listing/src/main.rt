@@ -1,9 +1,9 @@
 // The examples of the run listing in the rules, run, of a list and of a table: one line `claim value` each. "done" comes with the count of runs,
 // "refused" with the number and the place; then come the words that were lent, 9 where nothing was written.
 use libc::STDOUT_FILENO;
-use list_runs::list_runs;
 use refusals::Answer;
-use table_runs::table_runs;
+use runs_write::list_runs;
+use runs_write::table_runs;
 
 // "rows 0..9 hold 100110, 00, 10010, 01, 10011, 11, 1000, 101, 1110, 1111": value, length, port, left row, right row.
 const TABLE_I: [u32; 50] = [

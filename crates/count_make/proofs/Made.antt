@@ -25,11 +25,11 @@ use Rattle.table_rules.specs.Check.{isGood}
 use Rattle.table_rules.proofs.Good.{check-is-good}
 use Rattle.runs_rules.specs.Runs.{Run, run, Lists, runSize, runWords, runAt}
 use Rattle.runs_rules.specs.Listing.{listed, writeRuns}
+use Rattle.runs_rules.specs.TableRuns.{tableRoutes, tableRuns}
 use Rattle.runs_rules.specs.Theorems.{mostRuns}
 use Rattle.runs_rules.proofs.Listing.{listed-lists, never-too-many, length-run-words}
 use Rattle.runs_rules.proofs.Words.{runs-of-words}
-use Rattle.table_runs.specs.TableRuns.{tableRoutes, tableRuns}
-use Rattle.table_runs.proofs.OfTable.{routes-valid}
+use Rattle.runs_rules.proofs.TableRuns.{routes-valid}
 use Rattle.count_rules.specs.Tally.{ports}
 use Rattle.count_rules.specs.Counted.{makeCounts}
 use Rattle.count_rules.proofs.Counted.{over-front}

@@ -10,10 +10,10 @@ ghost use Rattle.count_rules.specs.Tally.{ports};
 ghost use Rattle.count_rules.specs.Counted.{makeCounts};
 ghost use Rattle.count_make.specs.Adding.{noughts, addRun, addedRuns, Addable, AllAddable};
 use count_rules::PORTS;
-use list_runs::RUN_SIZE;
 use refusals::Answer;
 use refusals::NO_ROOM;
-use table_runs::table_runs;
+use runs_write::RUN_SIZE;
+use runs_write::table_runs;
 
 // The words of as many runs as a table can have.
 const RUNS_SIZE: usize = 24579;

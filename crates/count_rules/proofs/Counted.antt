@@ -22,7 +22,7 @@ use Rattle.table_rules.specs.Check.{isGood}
 use Rattle.table_update.specs.Calls.{keeping, leaves, announceInto, withdrawInto}
 use Rattle.table_update.specs.History.{announcing, withdrawing, Table}
 use Rattle.table_update.proofs.History.{refused-keeps}
-use Rattle.table_runs.specs.TableRuns.{tableRoutes}
+use Rattle.runs_rules.specs.TableRuns.{tableRoutes}
 use Rattle.message_rules.specs.Message.{withdrawnIn, announcedIn}
 use Rattle.message_rules.specs.Check.{messageCheck}
 use Rattle.message_calls.specs.Apply.{refusedAt, appliedTo, applyInto}

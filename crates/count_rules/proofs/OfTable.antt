@@ -10,8 +10,8 @@ use Rattle.trie.specs.Scan.{scan}
 use Rattle.lists.proofs.Numbered.{getD-list-of}
 use Rattle.routes.specs.Scan.{scanOf}
 use Rattle.routes.proofs.Scan.{scan-le}
-use Rattle.table_runs.specs.TableRuns.{tableRoutes}
-use Rattle.table_runs.proofs.OfTable.{scan-is, routes-valid}
+use Rattle.runs_rules.specs.TableRuns.{tableRoutes}
+use Rattle.runs_rules.proofs.TableRuns.{scan-is, routes-valid}
 use Rattle.count_rules.specs.Tally.{ports, addresses, tally}
 use Rattle.count_rules.specs.Theorems.{CountIs, TotalIs}
 use Rattle.count_rules.proofs.Tally.{addresses-same, total-tally}

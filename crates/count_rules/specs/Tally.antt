@@ -10,7 +10,7 @@ use Rattle.routes.specs.Scan.{scanOf}
 use Rattle.routes.specs.declared.Route.{Route}
 use Rattle.table_rules.specs.Rows.{Mem}
 use Rattle.runs_rules.specs.Runs.{Run}
-use Rattle.table_runs.specs.TableRuns.{tableRoutes}
+use Rattle.runs_rules.specs.TableRuns.{tableRoutes}
 
 -- "for each port 0..4094"
 abbrev pub ports : ℕ

@@ -36,8 +36,8 @@ use Rattle.image_lookup.specs.Many.{manyWords}
 use Rattle.image_build.specs.Build.{Left, left, doneBuild, buildImage}
 use Rattle.runs_rules.specs.Runs.{Run, run, Lists}
 use Rattle.runs_rules.specs.Listing.{writeRuns}
+use Rattle.runs_rules.specs.TableRuns.{tableRoutes, tableRuns}
 use Rattle.runs_rules.proofs.Listing.{listed-lists, listed-none, list-runs-done}
-use Rattle.table_runs.specs.TableRuns.{tableRoutes, tableRuns}
 use Rattle.segment_rules.specs.Tables.{firstSize}
 use Rattle.segment_rules.specs.Build.{Stores, buildSegments, lookupStores}
 use Rattle.octets.specs.Bytes.{digits}

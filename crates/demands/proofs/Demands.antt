@@ -20,7 +20,6 @@ use Rattle.refusals.specs.Refusals.{accepted, found}
 use Rattle.refusals.specs.Reply.{Reply, placed, counted, looked, replied}
 use Rattle.refusals.specs.declared.Answer.{Answer}
 use Rattle.refusals.specs.declared.found.Found.{Found}
-use Rattle.routes.specs.Bounds.{mostRoutes}
 use Rattle.routes.specs.Check.{listCheck}
 use Rattle.routes.specs.Scan.{scanOf, listScan}
 use Rattle.routes.proofs.Check.{accepted-valid}
@@ -51,7 +50,7 @@ use Rattle.runs_rules.specs.Runs.{runs}
 use Rattle.runs_rules.proofs.Runs.{listing-unique, listing-exists}
 use Rattle.runs_rules.proofs.Maximal.{listing-is-maximal}
 use Rattle.runs_rules.proofs.Listing.{list-runs-done}
-use Rattle.table_runs.proofs.OfTable.{table-runs-done}
+use Rattle.runs_rules.proofs.TableRuns.{table-runs-done}
 use Rattle.segment_rules.specs.Build as segments
 use Rattle.segment_rules.specs.Build.{Stores, lookupStores}
 use Rattle.segment_rules.specs.Tables.{plainPointer}
@@ -237,10 +236,6 @@ scan-done list a z = by (way (eqb (listCheck 32 list .number) 0))
     by (inl e) = rw e
     by (inr e) = absurd (eqb-false (listCheck 32 list .number) 0 e (rw e at z))
 
--- a capacity is at most 4,096
-capacity-le : (rows : List ℕ) → capacity rows ≤ mostRoutes
-capacity-le rows = omega arith
-
 -- a save of a table in good order, with room
 save-done : (rows : List ℕ) (n : ℕ) (list : List ℕ) (S : Routes) → GoodFor 32 (capacity rows) (rowAt rows) n S → n * 3 ≤ length list
     → saveInto 32 (capacity rows) (rowAt rows) n list ≡ outcome (accepted n) (over (wordsOf (saved 32 (rowAt rows) n)) list)
@@ -352,7 +347,7 @@ module _ (B : Boundary) (f : Follows B) where
         f .table-runs (t .words) (t .count) lent o m
         ∙ ap replied
         (table-runs-done 32 (capacity (t .words)) (rowAt (t .words)) (t .count) (heldBy steps) lent rs (held-is B f rows steps h)
-        (capacity-le (t .words)) (listing-is-maximal _ _ rs .1 lists) room);
+        (omega arith) (listing-is-maximal _ _ rs .1 lists) room);
     listed-list = λ list lent rs x o c z lists room m.
         f .list-runs list lent o m
         ∙ ap replied (list-runs-done 32 list lent rs (sym (ap (λ (r : Reply). r .number) (f .list-check list x c)) ∙ z) (listing-is-maximal _ _ rs .1 lists) room);

@@ -18,7 +18,6 @@ use Rattle.table_rules.specs.Holds.{GoodFor}
 use Rattle.table_rules.proofs.Good.{placed→held}
 use Rattle.table_update.specs.History.{Table}
 use Rattle.table_update.proofs.FillLoop.{placed-none}
-use Rattle.table_runs.proofs.OfTable.{capacity-le}
 use Rattle.message_calls.specs.History.{Event, portLeft, EventFits, outcomeOn}
 use Rattle.message_calls.proofs.Theorems.{event-is}
 use Rattle.count_rules.specs.Tally.{ports, total}
@@ -122,7 +121,7 @@ module _ (B : Boundary) (follows : Follows B) where
       let is = follows .counts-make (t .words) (t .count) lent made m in
       let fresh = makeCounts fiveWords 32 (t .words) (t .count) lent in
       let left-over : fresh .lent ≡ made .lent = sym (ap (λ (o : Outcome Reply). o .lent) is) in
-      let k = counted-history-is fiveWords 32 (words-stores 32) refl capacity-le t lent (calls steps) (calls-fit steps t h) (sym (ap (λ (o : Outcome Reply). o .answer .number) is) ∙ z) in
+      let k = counted-history-is fiveWords 32 (words-stores 32) refl (λ words. omega arith) t lent (calls steps) (calls-fit steps t h) (sym (ap (λ (o : Outcome Reply). o .answer .number) is) ∙ z) in
       let end = ap (λ (counts : List ℕ). ranCounted fiveWords 32 (record { table = t; counts = counts }) (calls steps)) left-over
       ∙ books steps (record { table = t; counts = made .lent }) h l in
       let u = atEnd t steps in
@@ -133,7 +132,7 @@ module _ (B : Boundary) (follows : Follows B) where
         each = λ port low.
             sym (getD-take ports counts port 0 low)
             ∙ ap (λ (xs : List ℕ). getD xs port 0) step
-            ∙ count-is 32 (capacity (u .words)) (rowAt (u .words)) (u .count) T (lasts steps t S good h) (capacity-le (u .words)) port low;
+            ∙ count-is 32 (capacity (u .words)) (rowAt (u .words)) (u .count) T (lasts steps t S good h) (omega arith) port low;
         totals = subst (λ (b : Book). total (take ports (b .counts)) ≡ 2 ^ 32) end (k .totals);
         size = subst (λ (b : Book). length (b .counts) ≡ length lent) end (k .size);
         past = λ i high. subst (λ (b : Book). getD (b .counts) i 0 ≡ getD lent i 0) end (k .past i high);

@@ -38,7 +38,6 @@ use Rattle.count_rules.specs.Tally.{ports, addresses}
 use Rattle.count_rules.specs.Counted.{countsOf}
 use Rattle.count_rules.proofs.Tally.{addresses-stretch}
 use Rattle.count_rules.proofs.OfTable.{count-is}
-use Rattle.table_runs.proofs.OfTable.{capacity-le}
 use Rattle.refusals.specs.declared.Answer.{Answer}
 use Rattle.message_calls.proofs.Once.{no-more}
 use Rattle.message_calls.proofs.Sized.{good-size, size-le}
@@ -85,7 +84,7 @@ roomy t h = omega (arith, fresh-long (t .words) (t .count))
 in-step : (t : Table) (S : Routes) → Good t S → StaleCounts 32 (t .words) (t .count) (fresh t) → ⊥
 in-step t S good stale =
     let x = stale S good in
-    x .2 (count-is 32 (capacity (t .words)) (rowAt (t .words)) (t .count) S good (capacity-le (t .words)) (x .0) (x .1))
+    x .2 (count-is 32 (capacity (t .words)) (rowAt (t .words)) (t .count) S good (omega arith) (x .0) (x .1))
 
 -- what the checks of an announcement, or of a withdrawal, of the whole space say of a table in good order that is lent with its counts
 announce-fine : (t : Table) (S : Routes) (counts : List ℕ) (port : ℕ) → Good t S → (length counts < ports → ⊥)

@@ -29,7 +29,6 @@ use Rattle.table_rules.specs.Withdraw.{withdrawn}
 use Rattle.table_rules.proofs.Table.{held-is}
 use Rattle.table_update.specs.Calls.{keeping, leaves, announcedWords, announceIn, announceInto, prefixOnly, withdrawIn, withdrawInto}
 use Rattle.table_update.specs.History.{announcing, withdrawing, Table, ran}
-use Rattle.table_runs.proofs.OfTable.{capacity-le}
 use Rattle.message_rules.specs.Message.{withdrawnIn, announcedIn}
 use Rattle.message_rules.specs.Check.{messageCheck}
 use Rattle.message_calls.specs.Named.{callsFor, finalCount}
@@ -76,11 +75,11 @@ tells-stale w rows n counts order =
     record {
       fine = λ e stale.
           let x = stale (order .0) (order .1) in
-          x .2 (same-at counts fresh (not-true (differ counts fresh) e) (x .0) (x .1) ∙ count-is w (capacity rows) (rowAt rows) n (order .0) (order .1) (capacity-le rows) (x .0) (x .1));
+          x .2 (same-at counts fresh (not-true (differ counts fresh) e) (x .0) (x .1) ∙ count-is w (capacity rows) (rowAt rows) n (order .0) (order .1) (omega arith) (x .0) (x .1));
       wrong = λ e S g.
           let p = passing (λ port. not (eqb (getD counts port 0) (getD fresh port 0))) ports (not-false (differ counts fresh) e) in
           let ne = eqb-false (getD counts (p .which) 0) (getD fresh (p .which) 0) (not-true (eqb (getD counts (p .which) 0) (getD fresh (p .which) 0)) (p .passes)) in
-          (p .which, p .below, λ is. ne (is ∙ sym (count-is w (capacity rows) (rowAt rows) n S g (capacity-le rows) (p .which) (p .below))));
+          (p .which, p .below, λ is. ne (is ∙ sym (count-is w (capacity rows) (rowAt rows) n S g (omega arith) (p .which) (p .below))));
     }
 
 -- a table, the counts lent, and what an update does without them

@@ -23,7 +23,7 @@ use Rattle.table_rules.proofs.Good.{check-is-good}
 use Rattle.table_lookup.specs.Good.{tableCheck}
 use Rattle.table_update.specs.Calls.{builtFrom, buildInto}
 use Rattle.runs_rules.specs.Listing.{listed, writeRuns}
-use Rattle.table_runs.specs.TableRuns.{tableRoutes, tableRuns}
+use Rattle.runs_rules.specs.TableRuns.{tableRoutes, tableRuns}
 use Rattle.demands.specs.Lamp.{Verdict, shows, done, refuse}
 use Rattle.demands.specs.Checks.{roomFor, orderChecks, buildChecks, saveChecks, rowChecks, lookupChecks, runsChecks, tableRunsChecks}
 use Rattle.demands.proofs.Tells.{Tells, tells-le}

@@ -26,7 +26,7 @@ use Rattle.image_rules.specs.Image.{imageNodes, imagePorts}
 use Rattle.image_build.specs.Build as build
 use Rattle.runs_rules.specs.Runs.{Run}
 use Rattle.runs_rules.specs.Listing.{listed}
-use Rattle.table_runs.specs.TableRuns.{tableRoutes}
+use Rattle.runs_rules.specs.TableRuns.{tableRoutes}
 use Rattle.demands.specs.Lamp.{Verdict, shows, done, whether, refuse}
 
 -- "port outside 1..4094"

@@ -5,11 +5,11 @@ ghost use Rattle.routes.specs.Check.{listCheck};
 ghost use Rattle.routes.specs.Scan.{listScan};
 ghost use Rattle.runs_rules.specs.Listing.{listRuns};
 ghost use Rattle.refusals.specs.Reply.{reply, placed, counted, replied};
-use list_runs::list_runs;
 use refusals::reply::counted;
 use refusals::reply::placed;
 use routes::check_list;
 use routes::scan_list;
+use runs_write::list_runs;
 
 #[no_mangle]
 pub extern "C" fn mft_list_check(list: &[u32], answer: &mut [u32; 1]) -> u32

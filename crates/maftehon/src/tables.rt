@@ -6,12 +6,12 @@ ghost use Rattle.table_rules.specs.Lookup.{lookupIn};
 ghost use Rattle.table_rules.specs.Save.{saveInto};
 ghost use Rattle.table_lookup.specs.Good.{tableCheck};
 ghost use Rattle.table_update.specs.Calls.{buildInto};
-ghost use Rattle.table_runs.specs.TableRuns.{tableRuns};
+ghost use Rattle.runs_rules.specs.TableRuns.{tableRuns};
 ghost use Rattle.refusals.specs.Reply.{reply, placed, looked, replied};
 use refusals::reply::counted;
 use refusals::reply::looked;
 use refusals::reply::placed;
-use table_runs::table_runs;
+use runs_write::table_runs;
 use table_save::save;
 
 #[no_mangle]

@@ -12,14 +12,14 @@ ghost use Rattle.runs_rules.specs.Listing.{listed};
 ghost use Rattle.page.specs.Page.{lineOf, linesOf, header, headerRoom, lineRoom, refusalRoom, runsText, refusedText, pageOf};
 ghost use Rattle.page.specs.Needs.{Wrote, Lined, Shown};
 use file_read::read_file;
-use list_runs::RUN_SIZE;
-use list_runs::list_runs;
 use put::put_byte;
 use put::put_bytes;
 use put::put_dotted;
 use put::put_number;
 use refusals::NO_ROOM;
 use routes::ROUTE_SIZE;
+use runs_write::RUN_SIZE;
+use runs_write::list_runs;
 
 mod put;
 

@@ -5,3 +5,4 @@ pub mod Listing
 pub mod Words
 pub mod Same
 pub mod Maximal
+pub mod TableRuns

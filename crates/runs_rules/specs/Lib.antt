@@ -2,5 +2,6 @@
 pub mod Runs
 pub mod Boundaries
 pub mod Listing
+pub mod TableRuns
 pub mod Maximal
 pub mod Theorems

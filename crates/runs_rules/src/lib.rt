@@ -1,1 +1,1 @@
-// The run listing, once over the width and any port of an address: definitions and laws alone, no code.
+// The run listing: of any port of an address, of a list and of a table, over the width. Definitions and laws alone, no code.

@@ -7,7 +7,7 @@ ghost use Rattle.segment_ports.specs.RunSearch.{runEnd, runPort, runOf, 
 ghost use Rattle.segment_ports.specs.Ports.{lieWithin, portsFrom, portsInto};
 ghost use Rattle.segment_ports.specs.Needs.{Blocks};
 use entries::fill;
-use list_runs::RUN_SIZE;
+use runs_write::RUN_SIZE;
 
 // How many addresses there are.
 const ADDRESSES: u64 = 4294967296;

@@ -1,12 +1,12 @@
 use mathlib.Core.Path.{refl, sym, ap, subst, _∙_}
 use mathlib.Core.List.{List}
 use Prim.Native.Nat.{ℕ}
+use native.Mathlib.Omega.{arith}
 use Rattle.promise.specs.Over.{outcome}
 use Rattle.refusals.specs.declared.Answer.{Answer}
 use Rattle.lists.specs.Numbered.{listOf}
 use Rattle.runs_rules.specs.Runs.{runAt}
 use Rattle.table_rows.specs.Words.{fiveWords}
-use Rattle.table_runs.proofs.OfTable.{capacity-le}
 use Rattle.count_make.specs.Adding.{addedRuns, AllAddable}
 use Rattle.count_make.proofs.Made.{made-short, made-refused, made-addable, made-done}
 use borrow.Author.Needs.{needs}
@@ -32,7 +32,7 @@ returns-2 : tie.Need-returns-2
 returns-2 c =
     let a = c .before .before .before .before .before .before .before .before .args in
     let ws = a .rows .now in
-    made-refused fiveWords 32 ws (a .n) (capacity-le ws) _ refl (c .before .before .before .table-runs .ensures) (a .counts .now) (c .before .before .before .before .before .if1 .left) (c .if2 .taken)
+    made-refused fiveWords 32 ws (a .n) (omega arith) _ refl (c .before .before .before .table-runs .ensures) (a .counts .now) (c .before .before .before .before .before .if1 .left) (c .if2 .taken)
 
 cast-count : tie.Need-cast-count
 cast-count c = search needs
@@ -48,7 +48,7 @@ add-runs-requires c κs =
     let a = c .before .before .before .before .before .before .before .before .before .before .before .before .before .before .before .args in
     let ws = a .rows .now in
     subst (AllAddable _ _) (sym (c .before .before .before .before .clear-counts .ensures))
-    (made-addable fiveWords 32 ws (a .n) (capacity-le ws) _ refl (c .before .before .before .before .before .before .before .before .before .before .table-runs .ensures) (a .counts .now) (c .before .before .before .before .before .before .before .before .before .before .before .before .if1 .left) (c .before .before .before .before .before .before .before .if2 .left))
+    (made-addable fiveWords 32 ws (a .n) (omega arith) _ refl (c .before .before .before .before .before .before .before .before .before .before .table-runs .ensures) (a .counts .now) (c .before .before .before .before .before .before .before .before .before .before .before .before .if1 .left) (c .before .before .before .before .before .before .before .if2 .left))
 
 accepted-requires : tie.Need-accepted-requires
 accepted-requires c κs = search needs
@@ -62,7 +62,7 @@ returns-3 c =
     let ws = a .rows .now in
     let t = c .before .before .before .before .before .before .before .before .before .before .before .before .before .before .table-runs in
     ap (λ (x : Answer). outcome x (c .before .before .before .add-runs .last .0)) (c .accepted .ensures)
-    ∙ made-done fiveWords 32 ws (a .n) (capacity-le ws) _ refl (t .ensures) (a .counts .now) (c .before .before .before .before .before .before .before .before .before .before .before .before .before .before .before .before .if1 .left) (c .before .before .before .before .before .before .before .before .before .before .before .if2 .left)
+    ∙ made-done fiveWords 32 ws (a .n) (omega arith) _ refl (t .ensures) (a .counts .now) (c .before .before .before .before .before .before .before .before .before .before .before .before .before .before .before .before .if1 .left) (c .before .before .before .before .before .before .before .before .before .before .before .if2 .left)
     (c .before .before .before .add-runs .ensures ∙ ap (λ (xs : List ℕ). addedRuns xs (listOf (runAt (t .last .1 .1 .0)) (t .result .count) 0)) (c .before .before .before .before .before .before .before .before .clear-counts .ensures))
 
 pub make-spec : {M : Type 1} → statement M

@@ -1,3 +1,0 @@
--- Laws of the run listing of a table.
-pub mod Unique
-pub mod OfTable

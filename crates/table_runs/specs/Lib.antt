@@ -1,3 +1,0 @@
--- The run listing of a table.
-pub mod TableRuns
-pub mod Theorems

@@ -9,7 +9,7 @@ use native.Mathlib.Nat.{zero-add}
 use lib.ListN.{length, getD, drop}
 use borrow.Author.Tests.{le-leb, lt-leb}
 use Rattle.promise.specs.Over.{Outcome, outcome, over}
-use Rattle.promise.proofs.Over.{length-over}
+use Rattle.promise.proofs.Over.{over-front, length-over}
 use Rattle.lists.specs.Numbered.{listOf}
 use Rattle.lists.proofs.Tests.{way}
 use Rattle.lists.proofs.Numbered.{getD-list-of, length-list-of}
@@ -32,7 +32,6 @@ use Rattle.runs_rules.proofs.Words.{runs-of-words}
 use Rattle.runs_rules.proofs.TableRuns.{routes-valid}
 use Rattle.count_rules.specs.Tally.{ports}
 use Rattle.count_rules.specs.Counted.{makeCounts}
-use Rattle.count_rules.proofs.Counted.{over-front}
 use Rattle.count_make.specs.Adding.{noughts, addedRuns, AllAddable}
 use Rattle.count_make.proofs.Added.{added-all, listed-some, listed-port}
 
@@ -136,7 +135,7 @@ module _ (L : Layout (List ℕ)) (w : ℕ) (words : List ℕ) (n : ℕ) (small :
 
         nought : (p : ℕ) → p < ports → getD (over (noughts ports) counts) p 0 ≡ 0
         nought p low =
-            over-front (noughts ports) counts p (omega (arith, low, length-noughts)) ∙ getD-list-of (λ _. 0) ports 0 p 0 low
+            over-front (noughts ports) counts 0 p (omega (arith, low, length-noughts)) ∙ getD-list-of (λ _. 0) ports 0 p 0 low
 
     pub made-done : {left′ : List ℕ} → left′ ≡ addedRuns (over (noughts ports) counts) (listOf (runAt left) (a .count) 0)
         → outcome (accepted 0) left′ ≡ makeCounts L w words n counts

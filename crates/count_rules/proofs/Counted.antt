@@ -6,14 +6,15 @@ use mathlib.Core.List.{List}
 use Prim.Native.Nat.{ℕ, _+_, _-_, _^_, _≤_, _<_}
 use native.Mathlib.Omega.{arith}
 use lib.Dec.{eqb, leb}
-use lib.ListN.{length, getD, take, drop, List·getD-append}
-use lib.Seq.{getD-append-add, getD-drop, getD-take, ext-getD, length-take-le}
+use lib.ListN.{length, getD, take}
+use lib.Seq.{getD-take, ext-getD, length-take-le}
 use borrow.Author.Tests.{eqb-true, eqb-false, eq-eqb, ne-eqb, leb-true, le-leb, lt-leb, not-true, not-false}
 use Rattle.promise.specs.Over.{Outcome, outcome, over}
+use Rattle.promise.proofs.Over.{over-front, over-past}
 use Rattle.lists.proofs.Tests.{way, test-no}
 use Rattle.lists.proofs.Below.{none-below, passing}
 use Rattle.lists.proofs.Numbered.{length-list-of}
-use Rattle.refusals.specs.Refusals.{wrongPort, notInOrder, accepted}
+use Rattle.refusals.specs.Refusals.{wrongPort, notInOrder, accepted, keepingAt}
 use Rattle.refusals.specs.declared.Answer.{Answer}
 use Rattle.routes.specs.Check.{isPort, prefixFault, routeFault}
 use Rattle.routes.specs.Scan.{scanOf}
@@ -25,7 +26,7 @@ use Rattle.table_update.proofs.History.{refused-keeps}
 use Rattle.runs_rules.specs.TableRuns.{tableRoutes}
 use Rattle.message_rules.specs.Message.{withdrawnIn, announcedIn}
 use Rattle.message_rules.specs.Check.{messageCheck}
-use Rattle.message_calls.specs.Apply.{refusedAt, appliedTo, applyInto}
+use Rattle.message_calls.specs.Apply.{appliedTo, applyInto}
 use Rattle.message_calls.specs.History.{Event, single, message, outcomeOn}
 use Rattle.message_calls.proofs.Theorems.{applied-whole}
 use Rattle.count_rules.specs.Tally.{ports, addresses, tableCounts, differ}
@@ -36,17 +37,6 @@ use Rattle.count_rules.specs.Theorems.{RoomFirst, RefusedKeeps as KeptRe
 
 pub length-counts : (w : ℕ) (M : Mem) (n : ℕ) → length (tableCounts w M n) ≡ ports
 length-counts w M n = length-list-of (λ port. addresses (scanOf w (tableRoutes w M n) n) port (2 ^ w)) ports 0
-
-pub over-front : (out lent : List ℕ) (i : ℕ) → i < length out → getD (over out lent) i 0 ≡ getD out i 0
-over-front out lent i h = List·getD-append out (drop (length out) lent) 0 i h
-
-pub over-past : (out lent : List ℕ) (i : ℕ) → length out ≤ i → getD (over out lent) i 0 ≡ getD lent i 0
-over-past out lent i h =
-    let e : i ≡ length out + (i - length out) = omega arith in
-    ap (λ (j : ℕ). getD (over out lent) j 0) e
-    ∙ getD-append-add out (drop (length out) lent) (i - length out) 0
-    ∙ getD-drop (length out) lent (i - length out) 0
-    ∙ ap (λ (j : ℕ). getD lent j 0) (sym e)
 
 -- counts that do not differ
 
@@ -84,7 +74,7 @@ fault-count w n (single (withdrawing value len)) = refl
 fault-count w n (message bytes port) = by (eqb (messageCheck w bytes .number) 0) (isPort port)
   where
     by : (a b : Bool)
-        → cond a (cond b (accepted n) (keeping wrongPort n)) (refusedAt (messageCheck w bytes .number) (messageCheck w bytes .place) n) .count ≡ n
+        → cond a (cond b (accepted n) (keeping wrongPort n)) (keepingAt (messageCheck w bytes .number) (messageCheck w bytes .place) n) .count ≡ n
     by true true = refl
     by true false = refl
     by false b = refl
@@ -102,7 +92,7 @@ module _ (L : Layout (List ℕ)) (w : ℕ) where
       done = appliedTo L w port (withdrawnIn w bytes) (announcedIn w bytes) words n
 
       refusal : Answer
-      refusal = refusedAt (messageCheck w bytes .number) (messageCheck w bytes .place) n
+      refusal = keepingAt (messageCheck w bytes .number) (messageCheck w bytes .place) n
 
       by : (a b : Bool) → (cond a (cond b (accepted n) (keeping wrongPort n)) refusal .number ≡ 0 → ⊥)
           → cond a (cond b (cond good done (leaves notInOrder n words)) (leaves wrongPort n words)) (outcome refusal words)
@@ -252,9 +242,9 @@ only-changed L w words n counts e = by (which-way L w words n counts e)
     by (refusedLater p z) = kept (ap (λ (x : Counted). x .counts) (counted-plain L w words n counts e p z))
     by (done p z) = subst (Rewrites L w words n counts) (sym (counted-done L w words n counts e p z)) (record {
       only = λ port h same.
-          over-front fresh counts port (subst (λ (m : ℕ). port < m) (sym size) h)
+          over-front fresh counts 0 port (subst (λ (m : ℕ). port < m) (sym size) h)
           ∙ sym same ∙ sym (same-at counts (countsOf L w words n) (p .same) port h);
-      past = λ i h. over-past fresh counts i (subst (λ (m : ℕ). m ≤ i) (sym size) h);
+      past = λ i h. over-past fresh counts 0 i (subst (λ (m : ℕ). m ≤ i) (sym size) h);
     })
       where
         u : Outcome Answer

@@ -6,11 +6,10 @@ use mathlib.Core.List.{List, [], _∷_}
 use Prim.Native.Nat.{ℕ, _%_, _≤_}
 use native.Mathlib.Omega.{arith}
 use lib.Dec.{eqb, leb}
-use lib.ListN.{length, getD, take, drop}
-use lib.Seq.{take-at}
+use lib.ListN.{length, getD, take}
 use borrow.Author.Tests.{eqb-true, eqb-false, leb-true}
 use Rattle.promise.specs.Over.{Outcome, over}
-use Rattle.promise.proofs.Over.{length-over}
+use Rattle.promise.proofs.Over.{over-taken, over-past, length-over}
 use Rattle.lists.proofs.Tests.{way}
 use Rattle.refusals.specs.declared.Answer.{Answer}
 use Rattle.routes.specs.Bounds.{mostRoutes}
@@ -26,7 +25,7 @@ use Rattle.count_rules.specs.Counted.{Counted, faultOf, countsOf, makeCo
 use Rattle.count_rules.specs.History.{Book, leftBy, AllEventsFit, countedIn, ranCounted}
 use Rattle.count_rules.specs.Theorems.{InStep, InStepIsPlain, Kept, CountedHistoryIs}
 use Rattle.count_rules.proofs.OfTable.{total-is}
-use Rattle.count_rules.proofs.Counted.{length-counts, over-past, front-same, plain-fault, Passed, Refused, first-fault, counted-passed, counted-refused, counted-done, Way, refusedFirst, refusedLater, done, which-way, refused-kept, only-changed}
+use Rattle.count_rules.proofs.Counted.{length-counts, front-same, plain-fault, Passed, Refused, first-fault, counted-passed, counted-refused, counted-done, Way, refusedFirst, refusedLater, done, which-way, refused-kept, only-changed}
 
 -- counts made afresh
 
@@ -135,7 +134,7 @@ module _ (L : Layout (List ℕ)) (w : ℕ) where
               ap (λ (x : Counted). x .counts) is ∙ sym (ap₂ (λ (ws : List ℕ) (m : ℕ). over (countsOf L w ws m) (b .counts)) rows-are n-is) in
               let within : length fresh ≤ length (b .counts) = subst (λ (m : ℕ). m ≤ length (b .counts)) (sym size) (sound .room) in (
                 ap length left ∙ length-over fresh (b .counts) within,
-                ap (take ports) left ∙ take-at fresh (drop (length fresh) (b .counts)) ports size,
+                ap (take ports) left ∙ over-taken fresh (b .counts) ports size,
               )
 
       sound-after : Sound (leftBy o)
@@ -169,7 +168,7 @@ module _ (L : Layout (List ℕ)) (w : ℕ) where
         let book : Book = record { table = t; counts = makeCounts L w (t .words) (t .count) lent .lent } in
         let sound : Sound book = record {
           room = subst (λ (xs : List ℕ). ports ≤ length xs) (sym (m .left)) (subst (λ (k : ℕ). ports ≤ k) (sym (length-over fresh lent within)) (m .room));
-          step = ap (take ports) (m .left) ∙ take-at fresh (drop (length fresh) lent) ports size;
+          step = ap (take ports) (m .left) ∙ over-taken fresh lent ports size;
           good = check-is-good w (L .room (t .words)) (L .get (t .words)) (t .count) .0 (m .good);
         } in
         let k = keeps book es fits sound in
@@ -177,6 +176,6 @@ module _ (L : Layout (List ℕ)) (w : ℕ) where
           in-step = k .in-step;
           totals = k .totals;
           size = k .size ∙ ap length (m .left) ∙ length-over fresh lent within;
-          past = λ i h. k .past i h ∙ ap (λ (xs : List ℕ). getD xs i 0) (m .left) ∙ over-past fresh lent i (subst (λ (j : ℕ). j ≤ i) (sym size) h);
+          past = λ i h. k .past i h ∙ ap (λ (xs : List ℕ). getD xs i 0) (m .left) ∙ over-past fresh lent 0 i (subst (λ (j : ℕ). j ≤ i) (sym size) h);
           as-plain = k .as-plain;
         }

@@ -5,7 +5,7 @@ use Prim.Native.Nat.{ℕ}
 use lib.Dec.{eqb, leb}
 use lib.ListN.{length}
 use Rattle.promise.specs.Over.{Outcome, outcome, over}
-use Rattle.refusals.specs.Refusals.{wrongPort, noRoom, notInOrder, refused, accepted}
+use Rattle.refusals.specs.Refusals.{wrongPort, noRoom, notInOrder, refused, accepted, keepingAt}
 use Rattle.refusals.specs.declared.Answer.{Answer}
 use Rattle.routes.specs.Check.{isPort, prefixFault, routeFault}
 use Rattle.table_rules.specs.Rows.{Layout}
@@ -13,7 +13,6 @@ use Rattle.table_rules.specs.Check.{isGood}
 use Rattle.table_update.specs.Calls.{keeping}
 use Rattle.table_update.specs.History.{announcing, withdrawing}
 use Rattle.message_rules.specs.Check.{messageCheck}
-use Rattle.message_calls.specs.Apply.{refusedAt}
 use Rattle.message_calls.specs.History.{Event, single, message, outcomeOn}
 use Rattle.count_rules.specs.Tally.{ports, tableCounts, differ}
 
@@ -31,7 +30,7 @@ abbrev pub messageFault : ℕ → List ℕ → ℕ → ℕ → Answer
 messageFault w bytes port n =
     cond (eqb (messageCheck w bytes .number) 0)
     (cond (isPort port) (accepted n) (keeping wrongPort n))
-    (refusedAt (messageCheck w bytes .number) (messageCheck w bytes .place) n)
+    (keepingAt (messageCheck w bytes .number) (messageCheck w bytes .place) n)
 
 -- what the arguments of an update are refused with, whatever the table: 4, 5 and 6, or 14, 4 and 6 of a message
 abbrev pub faultOf : ℕ → ℕ → Event → Answer

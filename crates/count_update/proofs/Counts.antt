@@ -1,19 +1,19 @@
 -- Counts compared and stored one by one, and the first checks. Assumes nothing.
 use mathlib.Core.Path.{_≡_, refl, sym, ap, _∙_}
 use mathlib.Core.Bool.{Bool, true, false, not}
-use mathlib.Core.List.{List, _++_, append-nil}
+use mathlib.Core.List.{List}
 use Prim.Native.Nat.{ℕ, _+_, _-_, _≤_, _<_}
 use native.Mathlib.Omega.{arith}
 use native.Mathlib.Numerals.{add-one}
 use lib.Dec.{eqb}
-use lib.ListN.{length, getD, set, take, drop}
-use lib.Seq.{take-suc, take-all, set-getD, length-take-le, drop-length}
+use lib.ListN.{length, getD, set, take}
+use lib.Seq.{take-suc, take-all, set-getD, length-take-le}
 use borrow.Author.Tests.{eq-eqb, ne-eqb, le-leb, lt-leb}
 use Rattle.promise.specs.Over.{Outcome, outcome, over}
-use Rattle.promise.proofs.Over.{over-push}
+use Rattle.promise.proofs.Over.{over-push, over-all}
 use Rattle.lists.specs.Below.{someBelow}
 use Rattle.lists.proofs.Below.{some-below}
-use Rattle.refusals.specs.Refusals.{wrongPort, noRoom, notInOrder, accepted}
+use Rattle.refusals.specs.Refusals.{wrongPort, noRoom, notInOrder, accepted, keepingAt}
 use Rattle.refusals.specs.declared.Answer.{Answer}
 use Rattle.routes.specs.Check.{isPort}
 use Rattle.table_rules.specs.Rows.{Layout}
@@ -23,7 +23,6 @@ use Rattle.message_rules.specs.Check.{messageCheck}
 use Rattle.message_check.specs.Checked.{checkedOf}
 use Rattle.message_check.specs.declared.Checked.{Checked}
 use Rattle.message_check.proofs.Whole.{checked-answer}
-use Rattle.message_calls.specs.Apply.{refusedAt}
 use Rattle.count_rules.specs.Tally.{ports, differ}
 use Rattle.count_rules.specs.Counted.{messageFault, countsOf, makeCounts, firstCheck, recounted}
 use Rattle.count_rules.proofs.Counted.{length-counts, first-passed}
@@ -68,10 +67,6 @@ module _ (fresh lent : List ℕ) where
 
   pub stored-all : (port : ℕ) → length fresh ≤ port → over (take port fresh) lent ≡ over fresh lent
   stored-all port h = ap (λ (xs : List ℕ). over xs lent) (take-all port fresh h)
-
--- nothing is left of what was written over whole
-pub over-all : (out lent : List ℕ) → length out ≡ length lent → over out lent ≡ out
-over-all out lent e = ap (λ (k : ℕ). out ++ drop k lent) e ∙ ap (λ (xs : List ℕ). out ++ xs) (drop-length lent) ∙ append-nil out
 
 -- fresh counts of a table in good order
 pub made-good : (L : Layout (List ℕ)) (w : ℕ) (words : List ℕ) (n : ℕ) (lent : List ℕ) → length lent ≡ ports
@@ -134,9 +129,9 @@ module _ (message : List ℕ) (port n : ℕ) (checked : Checked) (checked-is : c
   answer-is : checked .answer ≡ messageCheck 32 message
   answer-is = ap (λ (c : Checked). c .answer) checked-is ∙ checked-answer 32 message
 
-  pub fault-message : (checked .answer .number ≡ 0 → ⊥) → refusedAt (checked .answer .number) (checked .answer .place) n ≡ messageFault 32 message port n
+  pub fault-message : (checked .answer .number ≡ 0 → ⊥) → keepingAt (checked .answer .number) (checked .answer .place) n ≡ messageFault 32 message port n
   fault-message ne =
-      ap (λ (a : Answer). refusedAt (a .number) (a .place) n) answer-is
+      ap (λ (a : Answer). keepingAt (a .number) (a .place) n) answer-is
       ∙ sym (rw (ne-eqb (messageCheck 32 message .number) 0 (λ z. ne (ap (λ (a : Answer). a .number) answer-is ∙ z))))
 
   module _ (fine : checked .answer .number ≡ 0) where
@@ -146,5 +141,5 @@ module _ (message : List ℕ) (port n : ℕ) (checked : Checked) (checked-is : c
     pub fault-none : isPort port ≡ true → accepted n ≡ messageFault 32 message port n
     fault-none ported = sym (rw (is-fine, ported))
 
-    pub fault-port : isPort port ≡ false → refusedAt wrongPort 0 n ≡ messageFault 32 message port n
+    pub fault-port : isPort port ≡ false → keepingAt wrongPort 0 n ≡ messageFault 32 message port n
     fault-port ported = sym (rw (is-fine, ported))

@@ -4,7 +4,6 @@ ghost use Rattle.promise.specs.Over.{outcome, over};
 ghost use Rattle.routes.specs.Routes.{route};
 ghost use Rattle.table_rows.specs.Words.{fiveWords};
 ghost use Rattle.table_update.specs.History.{announcing, withdrawing};
-ghost use Rattle.message_calls.specs.Apply.{refusedAt};
 ghost use Rattle.message_calls.specs.History.{single, message};
 ghost use Rattle.count_rules.specs.Tally.{differ};
 ghost use Rattle.count_rules.specs.Counted.{counted, messageFault, countsOf, firstCheck, recounted, countedOn};
@@ -18,17 +17,6 @@ use refusals::NOT_IN_ORDER;
 use refusals::WRONG_PORT;
 use routes::Route;
 use routes::is_port;
-
-// A refusal of an update: the number of routes stays as it was.
-fn keeping(number: u32, place: u32, n: u32) -> Answer
-    ensures { λ r. ⌜ r ≡ refusedAt number place n ⌝ }
-{
-    Answer {
-        number,
-        place,
-        count: n,
-    }
-}
 
 // Whether one of the first 4,095 counts is not the fresh one.
 fn counts_differ(counts: &[u64], fresh: &[u64]) -> bool
@@ -68,7 +56,7 @@ pub fn first_check(fault: Answer, rows: &[u32], n: u32, counts: &[u64]) -> Answe
     ensures { λ r. ⌜ r ≡ firstCheck fiveWords 32 fault (now (rows .entry)) n (now (counts .entry)) ⌝ }
 {
     if counts.len() < PORTS {
-        return keeping(NO_ROOM, 0, n);
+        return Answer::keeping(NO_ROOM, 0, n);
     }
     if fault.number != 0 {
         return fault;
@@ -76,10 +64,10 @@ pub fn first_check(fault: Answer, rows: &[u32], n: u32, counts: &[u64]) -> Answe
     let mut fresh = [0u64; PORTS];
     let made = make(rows, n, &mut fresh);
     if made.number != 0 {
-        return keeping(NOT_IN_ORDER, 0, n);
+        return Answer::keeping(NOT_IN_ORDER, 0, n);
     }
     if counts_differ(counts, &fresh) {
-        return keeping(NOT_IN_ORDER, 0, n);
+        return Answer::keeping(NOT_IN_ORDER, 0, n);
     }
     Answer::accepted(n)
 }
@@ -113,12 +101,12 @@ fn message_fault(message: &[u8], port: u32, n: u32) -> Answer
     let checked = check_message(message);
     let answer = checked.answer;
     if answer.number != 0 {
-        return keeping(answer.number, answer.place, n);
+        return Answer::keeping(answer.number, answer.place, n);
     }
     if is_port(port) {
         return Answer::accepted(n);
     }
-    keeping(WRONG_PORT, 0, n)
+    Answer::keeping(WRONG_PORT, 0, n)
 }
 
 // Announces a route to a table of n routes, and keeps the counts in step; the count answered is the new n. Refuses as the first checks
@@ -133,7 +121,7 @@ pub fn announce(
 ) -> Answer
     ensures { λ r. ⌜ counted r (now (rows .exit)) (now (counts .exit)) ≡ countedOn fiveWords 32 (now (rows .entry)) n (now (counts .entry)) (single (announcing (route value len port))) ⌝ }
 {
-    let fault = keeping(routes::route_fault(Route { value, len, port }), 0, n);
+    let fault = Answer::keeping(routes::route_fault(Route { value, len, port }), 0, n);
     let checked = first_check(fault, rows, n, counts);
     if checked.number != 0 {
         return checked;
@@ -147,7 +135,7 @@ pub fn announce(
 pub fn withdraw(rows: &mut [u32], n: u32, value: u32, len: u32, counts: &mut [u64]) -> Answer
     ensures { λ r. ⌜ counted r (now (rows .exit)) (now (counts .exit)) ≡ countedOn fiveWords 32 (now (rows .entry)) n (now (counts .entry)) (single (withdrawing value len)) ⌝ }
 {
-    let fault = keeping(routes::prefix_fault(value, len), 0, n);
+    let fault = Answer::keeping(routes::prefix_fault(value, len), 0, n);
     let checked = first_check(fault, rows, n, counts);
     if checked.number != 0 {
         return checked;

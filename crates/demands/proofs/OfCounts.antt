@@ -15,7 +15,7 @@ use Rattle.lists.proofs.Below.{passing}
 use Rattle.bits.specs.Bits.{prefixBits}
 use Rattle.bits.specs.Prefix.{span, Valid, clear}
 use Rattle.trie.specs.Routes.{Routes}
-use Rattle.refusals.specs.Refusals.{longPrefix, spareBits, wrongPort, noRoom, notHeld, notInOrder, refused, accepted}
+use Rattle.refusals.specs.Refusals.{longPrefix, spareBits, wrongPort, noRoom, notHeld, notInOrder, refused, accepted, keepingAt}
 use Rattle.refusals.specs.declared.Answer.{Answer}
 use Rattle.routes.specs.Bounds.{lastPort}
 use Rattle.routes.specs.Check.{isPort, prefixFault}
@@ -32,7 +32,7 @@ use Rattle.table_update.specs.History.{announcing, withdrawing, Table, ran}
 use Rattle.message_rules.specs.Message.{withdrawnIn, announcedIn}
 use Rattle.message_rules.specs.Check.{messageCheck}
 use Rattle.message_calls.specs.Named.{callsFor, finalCount}
-use Rattle.message_calls.specs.Apply.{doneAs, refusedAt, appliedTo, applyInto}
+use Rattle.message_calls.specs.Apply.{doneAs, appliedTo, applyInto}
 use Rattle.message_calls.specs.History.{Event, single, message, EventFits, outcomeOn}
 use Rattle.count_rules.specs.Tally.{ports, differ}
 use Rattle.count_rules.specs.Counted.{Counted, counted, faultOf, countsOf, makeCounts, firstCheck, recounted, countedOn}
@@ -288,7 +288,7 @@ module _ (w : ℕ) (rows : List ℕ) (n : ℕ) (counts : List ℕ) where
 
       -- what the message and its port are refused with
       fault : Answer → Bool → Answer
-      fault a b = cond (eqb (a .number) 0) (cond b (accepted n) (keeping wrongPort n)) (refusedAt (a .number) (a .place) n)
+      fault a b = cond (eqb (a .number) 0) (cond b (accepted n) (keeping wrongPort n)) (keepingAt (a .number) (a .place) n)
 
       answer : Answer → Bool → Counted
       answer a b = cond (eqb (fault a b .number) 0) (stepped w rows n counts e inner) (counted (fault a b) rows counts)
@@ -297,10 +297,10 @@ module _ (w : ℕ) (rows : List ℕ) (n : ℕ) (counts : List ℕ) where
       at-place m p some = by (eqb m 0) (ne-eqb m 0 (λ z. omega arith))
         where
           shown : Counted
-          shown = counted (refusedAt m p n) rows counts
+          shown = counted (keepingAt m p n) rows counts
 
           first : Bool → Answer
-          first b = cond b (cond (isPort port) (accepted n) (keeping wrongPort n)) (refusedAt m p n)
+          first b = cond b (cond (isPort port) (accepted n) (keeping wrongPort n)) (keepingAt m p n)
 
           by : (b : Bool) → b ≡ false → On v (shows m p) (cond (eqb (first b .number) 0) (stepped w rows n counts e inner) (counted (first b) rows counts))
           by true wrong = absurd (true≢false wrong)

@@ -6,11 +6,11 @@ use mathlib.Core.List.{List, _++_}
 use Prim.Native.Nat.{ℕ, _+_, _*_, _≤_, _<_}
 use native.Mathlib.Omega.{arith}
 use lib.Dec.{eqb, leb}
-use lib.ListN.{length, take, drop}
-use lib.Seq.{take-at}
+use lib.ListN.{length, take}
 use borrow.Author.Tests.{eq-eqb, ne-eqb, eqb-true, eqb-false, le-leb, lt-leb, leb-true, leb-false}
 use Rattle.lists.proofs.Tests.{way}
 use Rattle.promise.specs.Over.{over, Outcome, outcome}
+use Rattle.promise.proofs.Over.{over-taken}
 use Rattle.refusals.specs.Refusals.{spareBits, noRoom, refused, accepted}
 use Rattle.routes.specs.Routes.{routeAt, routeCount, ValidList, listOfRoutes}
 use Rattle.routes.specs.Check.{listCheck, routesCheck, firstFault}
@@ -99,10 +99,6 @@ pub empty-file : EmptyFile
 unfolding checkedThen readFile writeFile fileCheck headFault checkFrom number digits inOrder listCheck routesCheck firstFault
 empty-file w lent = (rw (le-leb 0 (length lent) (omega arith)), λ room. rw (le-leb 5 (length lent) room))
 
--- the output that was written, taken out again
-taken-out : (out lent : List ℕ) (n : ℕ) → length out ≡ n → take n (over out lent) ≡ out
-taken-out out lent n l = take-at out (drop (length out) lent) n l
-
 -- routes that agree are valid together
 valid-same : (w : ℕ) (R Q : ℕ → Route) (n : ℕ) → ((i : ℕ) → i < n → Q i ≡ R i) → ValidList w R n → ValidList w Q n
 valid-same w R Q n same ok = record {
@@ -135,7 +131,7 @@ read-written w list file lent wide fits e room =
     let d = done-checked (listCheck w list) out (length out) file e in
     let whole = accepted-sized w list (d .0) .whole in
     let back = file-back w (routeAt list) n wide (accepted-valid w list fits (d .0)) in
-    rw (checked-done (listCheck w list) out (length out) file (d .0) (d .1), taken-out out file (length out) refl)
+    rw (checked-done (listCheck w list) out (length out) file (d .0) (d .1), over-taken out file (length out) refl)
     (read-whole w out lent n (back .0) (omega arith)
     ∙ ap (λ (l : List ℕ). outcome (accepted n) (over l lent)) (in-order-same _ _ _ n (back .1) ∙ list-same list whole))
 
@@ -155,7 +151,7 @@ write-read w file list lent wide bytes e room =
     check-done w words fits .1 (omega (arith, length-list R n), rw count (valid-same w R (routeAt words) n same valid)) in
     let out : fileOf w (routeAt words) (routeCount words) ≡ clearedFile file n =
     rw count (ap (λ (b : List ℕ). headOf (length b) ++ b) (in-order-same _ _ _ n same) ∙ file-cleared w file n wide bytes ok) in
-    rw (checked-done (fileCheck w file) words n list (d .0) (d .1), taken-out words list (n * 3) (length-list R n))
+    rw (checked-done (fileCheck w file) words n list (d .0) (d .1), over-taken words list (n * 3) (length-list R n))
     (write-done w words (clearedFile file n) lent (ap (λ (a : Answer). a .number) checked) out (omega (arith, cleared-length file n))
     ∙ ap (λ (k : ℕ). outcome (accepted k) (over (clearedFile file n) lent)) (cleared-length file n))
 

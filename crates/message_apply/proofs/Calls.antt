@@ -8,7 +8,7 @@ use lib.ListN.{length, take, drop, length-drop}
 use lib.Seq.{length-take-le, take-all}
 use borrow.Author.Tests.{eq-eqb, ne-eqb}
 use Rattle.promise.specs.Over.{Outcome, outcome}
-use Rattle.refusals.specs.Refusals.{wrongPort, notInOrder}
+use Rattle.refusals.specs.Refusals.{wrongPort, notInOrder, keepingAt}
 use Rattle.refusals.specs.declared.Answer.{Answer}
 use Rattle.routes.specs.Check.{isPort}
 use Rattle.table_rules.specs.Check.{isGood}
@@ -19,32 +19,32 @@ use Rattle.message_rules.proofs.Heads.{message-fits}
 use Rattle.message_check.specs.Checked.{checkedOf}
 use Rattle.message_check.proofs.Whole.{checked-answer}
 use Rattle.message_check.specs.declared.Checked.{Checked}
-use Rattle.message_calls.specs.Apply.{refusedAt, appliedTo, applyInto}
+use Rattle.message_calls.specs.Apply.{appliedTo, applyInto}
 use Rattle.message_apply.specs.Needs.{Applies}
 
 module _ (message : List ℕ) (port : ℕ) (words : List ℕ) (n : ℕ) (checked : Checked) (checked-is : checked ≡ checkedOf 32 message) where
   answer-is : checked .answer ≡ messageCheck 32 message
   answer-is = ap (λ (c : Checked). c .answer) checked-is ∙ checked-answer 32 message
 
-  pub apply-refused : (checked .answer .number ≡ 0 → ⊥) → (r : Answer) → r ≡ refusedAt (checked .answer .number) (checked .answer .place) n
+  pub apply-refused : (checked .answer .number ≡ 0 → ⊥) → (r : Answer) → r ≡ keepingAt (checked .answer .number) (checked .answer .place) n
       → outcome r words ≡ applyInto fiveWords 32 message port words n
   unfolding applyInto
   apply-refused ne r r-is =
       ap (λ (x : Answer). outcome x words) r-is
-      ∙ ap (λ (a : Answer). outcome (refusedAt (a .number) (a .place) n) words) answer-is
+      ∙ ap (λ (a : Answer). outcome (keepingAt (a .number) (a .place) n) words) answer-is
       ∙ sym (rw (ne-eqb (messageCheck 32 message .number) 0 (λ z. ne (ap (λ (a : Answer). a .number) answer-is ∙ z))))
 
   module _ (fine : checked .answer .number ≡ 0) where
     is-fine : messageCheck 32 message .number ≡ 0
     is-fine = ap (λ (a : Answer). a .number) (sym answer-is) ∙ fine
 
-    pub apply-wrong-port : isPort port ≡ false → (r : Answer) → r ≡ refusedAt wrongPort 0 n → outcome r words ≡ applyInto fiveWords 32 message port words n
+    pub apply-wrong-port : isPort port ≡ false → (r : Answer) → r ≡ keepingAt wrongPort 0 n → outcome r words ≡ applyInto fiveWords 32 message port words n
     unfolding applyInto
     apply-wrong-port p r r-is =
         ap (λ (x : Answer). outcome x words) r-is ∙ sym (rw (eq-eqb (messageCheck 32 message .number) 0 is-fine, p))
 
     module _ (ported : isPort port ≡ true) where
-      pub apply-disorder : isGood 32 (fiveWords .room words) (fiveWords .get words) n ≡ false → (r : Answer) → r ≡ refusedAt notInOrder 0 n
+      pub apply-disorder : isGood 32 (fiveWords .room words) (fiveWords .get words) n ≡ false → (r : Answer) → r ≡ keepingAt notInOrder 0 n
           → outcome r words ≡ applyInto fiveWords 32 message port words n
       unfolding applyInto
       apply-disorder g r r-is =

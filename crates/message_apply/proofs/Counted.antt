@@ -12,7 +12,7 @@ use Rattle.promise.specs.Over.{outcome}
 use Rattle.bits.specs.Prefix.{Valid}
 use Rattle.lists.proofs.Tests.{both}
 use Rattle.prefix.specs.declared.Prefix.{Prefix}
-use Rattle.refusals.specs.Refusals.{noRoom, accepted}
+use Rattle.refusals.specs.Refusals.{noRoom, accepted, keepingAt}
 use Rattle.refusals.specs.declared.Answer.{Answer}
 use Rattle.routes.specs.Bounds.{mostRoutes, lastPort}
 use Rattle.table_rules.specs.Holds.{GoodOrder}
@@ -26,7 +26,7 @@ use Rattle.message_rules.proofs.Walk.{length-prefixes, valid-prefixes}
 use Rattle.message_calls.specs.Once.{among, those}
 use Rattle.message_calls.specs.Named.{isOne, isNamed, once, holds, finalCount}
 use Rattle.message_calls.specs.Steps.{Noted, noteOne, noted, dropped, added}
-use Rattle.message_calls.specs.Apply.{doneAs, refusedAt, appliedTo}
+use Rattle.message_calls.specs.Apply.{doneAs, appliedTo}
 use Rattle.message_calls.proofs.Once.{those-le, once-le}
 use Rattle.message_calls.proofs.Final.{hits-few, valid-append}
 use Rattle.message_calls.proofs.Noting.{folded-append, holding-none, NotedIs, noted-is}
@@ -121,7 +121,7 @@ module _ (port : ℕ) (gone come words : List ℕ) (n : ℕ) (ok : Applies port 
 
         module _ (c : ℕ) (c-is : c ≡ fiveWords .room words) where
           -- refused, and no row is written
-          pub too-many : c + b .hits < n + a .met → (r : Answer) → r ≡ refusedAt noRoom 0 n → outcome r words ≡ appliedTo fiveWords 32 port gs cs words n
+          pub too-many : c + b .hits < n + a .met → (r : Answer) → r ≡ keepingAt noRoom 0 n → outcome r words ≡ appliedTo fiveWords 32 port gs cs words n
           unfolding appliedTo
           too-many h r r-is =
               let over : fiveWords .room words < finalCount 32 (fiveWords .get words) n gs cs = omega (arith, counted, c-is, hits-le) in

@@ -8,7 +8,7 @@ ghost use Rattle.table_rows.specs.Words.{fiveWords};
 ghost use Rattle.message_rules.specs.Message.{prefixesIn};
 ghost use Rattle.message_calls.specs.Named.{routeTo, holds};
 ghost use Rattle.message_calls.specs.Steps.{noteOne, noted, dropOne, dropped, addOne, added};
-ghost use Rattle.message_calls.specs.Apply.{refusedAt, appliedTo, applyInto};
+ghost use Rattle.message_calls.specs.Apply.{appliedTo, applyInto};
 ghost use Rattle.message_apply.specs.Needs.{tableAs, notedAs, Small, seenSize, Applies};
 use message_check::check_message;
 use message_rules::WITHDRAWN_AT;
@@ -168,17 +168,6 @@ fn add_part(part: &[u8], port: u32, rows: &mut [u32], count: u32) -> u32
     n
 }
 
-// A refusal with the number of routes as it was: of the message, at a place in it, or else at 0.
-fn keeping(number: u32, place: u32, n: u32) -> Answer
-    ensures { λ r. ⌜ r ≡ refusedAt number place n ⌝ }
-{
-    Answer {
-        number,
-        place,
-        count: n,
-    }
-}
-
 // Withdrawn and announced prefixes on a table in good order. The final set has all routes held but those that the message names, and the
 // announced ones; whether it fits is known before a row is written.
 fn apply_parts(
@@ -195,7 +184,7 @@ fn apply_parts(
     let announced = note_part(come, rows, n, seen, port, Tally { met: 0, hits: 0 });
     let named = note_part(gone, rows, n, seen, port, announced);
     if capacity_of(rows) + named.hits < n + announced.met {
-        return keeping(NO_ROOM, 0, n);
+        return Answer::keeping(NO_ROOM, 0, n);
     }
     // Now the announced ones alone: they are not to be withdrawn.
     let kept = note_part(come, rows, n, seen, port, Tally { met: 0, hits: 0 });
@@ -212,7 +201,7 @@ pub fn apply(message: &[u8], port: u32, rows: &mut [u32], n: u32) -> Answer
     let checked = check_message(message);
     let answer = checked.answer;
     if answer.number != 0 {
-        return keeping(answer.number, answer.place, n);
+        return Answer::keeping(answer.number, answer.place, n);
     }
     if is_port(port) {
         if table_lookup::is_good(rows, n) {
@@ -228,7 +217,7 @@ pub fn apply(message: &[u8], port: u32, rows: &mut [u32], n: u32) -> Answer
                 &mut seen,
             );
         }
-        return keeping(NOT_IN_ORDER, 0, n);
+        return Answer::keeping(NOT_IN_ORDER, 0, n);
     }
-    keeping(WRONG_PORT, 0, n)
+    Answer::keeping(WRONG_PORT, 0, n)
 }

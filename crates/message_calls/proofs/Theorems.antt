@@ -13,7 +13,7 @@ use Rattle.lists.proofs.Tests.{way, both}
 use Rattle.bits.specs.Bits.{Bits, same}
 use Rattle.trie.specs.Routes.{Routes, upd}
 use Rattle.prefix.specs.declared.Prefix.{Prefix}
-use Rattle.refusals.specs.Refusals.{noRoom, notInOrder, wrongPort}
+use Rattle.refusals.specs.Refusals.{noRoom, notInOrder, wrongPort, keepingAt}
 use Rattle.refusals.specs.declared.Answer.{Answer}
 use Rattle.routes.specs.Bounds.{lastPort}
 use Rattle.routes.specs.Check.{isPort}
@@ -30,7 +30,7 @@ use Rattle.message_rules.specs.Message.{withdrawnAt, withdrawnSize, announcedAt
 use Rattle.message_rules.specs.Check.{messageCheck}
 use Rattle.message_rules.proofs.Walk.{valid-prefixes}
 use Rattle.message_calls.specs.Named.{isNamed, remaining, withdrawals, announcements, finalCount, finalSet, Size}
-use Rattle.message_calls.specs.Apply.{doneAs, refusedAt, appliedTo, applyInto}
+use Rattle.message_calls.specs.Apply.{doneAs, appliedTo, applyInto}
 use Rattle.message_calls.specs.History.{Event, single, message, callsOf, portLeft, afterEvent, callsIn, ranEvents, flattened}
 use Rattle.message_calls.specs.Theorems.{AppliedIsCalls, AppliedHolds, AppliedWhole, FullExactly, MessageHistoryIs, EventIs}
 use Rattle.message_calls.proofs.Final.{final-size}
@@ -66,7 +66,7 @@ module _ (L : Layout (List ℕ)) (w : ℕ) (bytes : List ℕ) (port : ℕ) (word
     abbrev byTests : Outcome Answer
     byTests =
         cond a (cond b (cond c (cond d done (leaves noRoom n words)) (leaves notInOrder n words)) (leaves wrongPort n words))
-        (outcome (refusedAt (messageCheck w bytes .number) (messageCheck w bytes .place) n) words)
+        (outcome (keepingAt (messageCheck w bytes .number) (messageCheck w bytes .place) n) words)
 
   is-tests : applyInto L w bytes port words n
       ≡ byTests (eqb (messageCheck w bytes .number) 0) (isPort port) (isGood w (L .room words) (L .get words) n)
@@ -93,7 +93,7 @@ module _ (L : Layout (List ℕ)) (w : ℕ) (bytes : List ℕ) (port : ℕ) (word
           → (leb (finalCount w (L .get words) n gone come) (L .room words) ≡ true) ⊎ (leb (finalCount w (L .get words) n gone come) (L .room words) ≡ false)
           → Passed ⊎ Kept (applyInto L w bytes port words n)
       by (inr a) b c d =
-          inr (kept (outcome (refusedAt (messageCheck w bytes .number) (messageCheck w bytes .place) n) words) (is-tests ∙ rw a)
+          inr (kept (outcome (keepingAt (messageCheck w bytes .number) (messageCheck w bytes .place) n) words) (is-tests ∙ rw a)
           (record { words-are = refl; count-is = refl; number-is = eqb-false (messageCheck w bytes .number) 0 a }))
       by (inl a) (inr b) c d =
           inr (kept (leaves wrongPort n words) (is-tests ∙ rw (a, b)) (record { words-are = refl; count-is = refl; number-is = λ z. omega arith }))

@@ -5,7 +5,7 @@ use Prim.Native.Nat.{ℕ}
 use lib.Dec.{eqb, leb}
 use Rattle.promise.specs.Over.{Outcome, outcome}
 use Rattle.prefix.specs.declared.Prefix.{Prefix}
-use Rattle.refusals.specs.Refusals.{wrongPort, noRoom, notInOrder, accepted}
+use Rattle.refusals.specs.Refusals.{wrongPort, noRoom, notInOrder, accepted, keepingAt}
 use Rattle.refusals.specs.declared.Answer.{Answer}
 use Rattle.routes.specs.Check.{isPort}
 use Rattle.table_rules.specs.Rows.{Layout}
@@ -19,10 +19,6 @@ use Rattle.message_calls.specs.Named.{callsFor, finalCount}
 -- the rows and the count that calls leave, as an answer
 abbrev pub doneAs : Table → Outcome Answer
 doneAs t = outcome (accepted (t .count)) (t .words)
-
--- a refusal of the message itself has a place in it, and n stays as it was
-abbrev pub refusedAt : ℕ → ℕ → ℕ → Answer
-refusedAt number place n = record { number = number; place = place; count = n }
 
 -- "9, the last exactly if the final set exceeds the capacity": withdrawn and announced prefixes on a table in good order
 unfoldable pub appliedTo : Layout (List ℕ) → ℕ → ℕ → List Prefix → List Prefix → List ℕ → ℕ → Outcome Answer
@@ -40,4 +36,4 @@ applyInto L w message port words n =
     (appliedTo L w port (withdrawnIn w message) (announcedIn w message) words n)
     (leaves notInOrder n words))
     (leaves wrongPort n words))
-    (outcome (refusedAt (messageCheck w message .number) (messageCheck w message .place) n) words)
+    (outcome (keepingAt (messageCheck w message .number) (messageCheck w message .place) n) words)

@@ -6,13 +6,13 @@ use mathlib.Core.List.{List}
 use Prim.Native.Nat.{ℕ, _≤_}
 use native.Mathlib.Omega.{arith}
 use lib.Dec.{eqb, leb}
-use lib.ListN.{length, take, drop}
-use lib.Seq.{take-at}
+use lib.ListN.{length, take}
 use borrow.Author.Tests.{eqb-true, eqb-false, le-leb, leb-true}
 use Rattle.lists.specs.Numbered.{inOrder}
 use Rattle.lists.specs.Below.{someBelow}
 use Rattle.lists.proofs.Tests.{way, both}
 use Rattle.promise.specs.Over.{over, Outcome, outcome}
+use Rattle.promise.proofs.Over.{over-taken}
 use Rattle.refusals.specs.Refusals.{accepted}
 use Rattle.refusals.specs.declared.Answer.{Answer}
 use Rattle.routes.specs.Routes.{routeAt, routeCount}
@@ -61,7 +61,7 @@ left-is w list lent e = go (ways w list lent)
         → (leftBy w list lent ≡ message w list lent) × (listCheck w list .number ≡ 0) × (length (message w list lent) ≤ mostSize)
     go (inl d) = (
       ap (λ (o : Outcome Answer). take (o .answer .count) (o .lent)) (d .is)
-          ∙ take-at (message w list lent) (drop (length (message w list lent)) lent) (length (message w list lent)) refl,
+          ∙ over-taken (message w list lent) lent (length (message w list lent)) refl,
       d .listed,
       d .most,
     )

@@ -1,11 +1,11 @@
--- Output written one element, or three, after the other over the front of lent memory. Assumes nothing.
+-- Output written one element, or three, after the other over the front of lent memory, and what is left there. Assumes nothing.
 use mathlib.Core.Path.{_≡_, sym, ap, _∙_}
 use mathlib.Core.List.{List, [], _∷_, _++_, append-assoc, append-nil}
 use Prim.Native.Nat.{ℕ, suc, _+_, _-_, _≤_, _<_}
 use native.Mathlib.Omega.{arith}
 use native.Mathlib.Numerals.{add-one}
-use lib.ListN.{length, set, drop, length-append, length-drop}
-use lib.Seq.{drop-cons, set-append-seam, append-snoc, sets}
+use lib.ListN.{length, getD, set, take, drop, length-append, length-drop, List·getD-append}
+use lib.Seq.{take-at, drop-cons, drop-length, getD-append-add, getD-drop, set-append-seam, append-snoc, sets}
 use Rattle.promise.specs.Over.{over, storeThree}
 
 module _ {A : Type 0} where
@@ -29,6 +29,27 @@ module _ {A : Type 0} where
       ap (λ (x : List A). sets x (suc at) vs) (over-push out lent v at e (omega arith))
       ∙ over-sets vs (out ++ (v ∷ [])) lent (suc at) l (omega arith)
       ∙ ap (λ (x : List A). over x lent) (append-snoc out v vs)
+
+  -- the output is the front of what is left
+  pub over-taken : (out lent : List A) (n : ℕ) → length out ≡ n → take n (over out lent) ≡ out
+  over-taken out lent n l = take-at out (drop (length out) lent) n l
+
+  pub over-front : (out lent : List A) (d : A) (i : ℕ) → i < length out → getD (over out lent) i d ≡ getD out i d
+  over-front out lent d i h = List·getD-append out (drop (length out) lent) d i h
+
+  -- and what lay past it is as it was
+  pub over-past : (out lent : List A) (d : A) (i : ℕ) → length out ≤ i → getD (over out lent) i d ≡ getD lent i d
+  over-past out lent d i h =
+      let e : i ≡ length out + (i - length out) = omega arith in
+      ap (λ (j : ℕ). getD (over out lent) j d) e
+      ∙ getD-append-add out (drop (length out) lent) (i - length out) d
+      ∙ getD-drop (length out) lent (i - length out) d
+      ∙ ap (λ (j : ℕ). getD lent j d) (sym e)
+
+  -- nothing is left of what was written over whole
+  pub over-all : (out lent : List A) → length out ≡ length lent → over out lent ≡ out
+  over-all out lent e =
+      ap (λ (k : ℕ). out ++ drop k lent) e ∙ ap (λ (xs : List A). out ++ xs) (drop-length lent) ∙ append-nil out
 
   pub length-over : (out lent : List A) → length out ≤ length lent → length (over out lent) ≡ length lent
   length-over out lent h = simp (length-append, length-drop) (omega arith)

@@ -5,6 +5,8 @@ use Rattle.refusals.specs.Reply.{reply}
 use Rattle.promise.specs.Determined.{Determined}
 use Rattle.refusals.proofs.Answer.refused.Reads as refused-reads
 use Rattle.refusals.proofs.Answer.refused.Kinds as refused-kinds
+use Rattle.refusals.proofs.Answer.keeping.Reads as keeping-reads
+use Rattle.refusals.proofs.Answer.keeping.Kinds as keeping-kinds
 use Rattle.refusals.proofs.Answer.accepted.Reads as accepted-reads
 use Rattle.refusals.proofs.Answer.accepted.Kinds as accepted-kinds
 use Rattle.refusals.proofs.found.Found.found.Kinds as found-kinds
@@ -20,6 +22,9 @@ use Rattle.refusals.proofs.reply.looked.Reads as looked-reads
 
 refused-unique : Determined 0 refused-kinds.ps refused-kinds.r refused-reads.Post (λ κs x s. x)
 refused-unique κs a x y s t p q = p ∙ sym q
+
+keeping-unique : Determined 0 keeping-kinds.ps keeping-kinds.r keeping-reads.Post (λ κs x s. x)
+keeping-unique κs a x y s t p q = p ∙ sym q
 
 accepted-unique : Determined 0 accepted-kinds.ps accepted-kinds.r accepted-reads.Post (λ κs x s. x)
 accepted-unique κs a x y s t p q = p ∙ sym q

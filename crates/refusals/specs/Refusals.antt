@@ -51,6 +51,10 @@ badMessage = 14
 abbrev pub refused : ℕ → ℕ → Answer
 refused number place = record { number = number; place = place; count = 0 }
 
+-- of an update: "all other results 0 (n as it was ...)"
+abbrev pub keepingAt : ℕ → ℕ → ℕ → Answer
+keepingAt number place n = record { number = number; place = place; count = n }
+
 -- "0 | done | 0"
 abbrev pub accepted : ℕ → Answer
 accepted count = record { number = 0; place = 0; count = count }

@@ -1,6 +1,6 @@
 // What a call answers, and the published numbers of the refusals.
 ghost use mathlib.Core.Path.{_≡_};
-ghost use Rattle.refusals.specs.Refusals.{refused, accepted};
+ghost use Rattle.refusals.specs.Refusals.{refused, keepingAt, accepted};
 
 pub mod found;
 pub mod reply;
@@ -50,6 +50,15 @@ impl Answer {
             place,
             count: 0,
         }
+    }
+
+    // A refusal of an update, which answers the number of routes: it stays as it was.
+    pub fn keeping(number: u32, place: u32, n: u32) -> Self
+        ensures { λ r. ⌜ r ≡ keepingAt number place n ⌝ }
+    {
+        let mut answer = Self::refused(number, place);
+        answer.count = n;
+        answer
     }
 
     // Done, with a result.

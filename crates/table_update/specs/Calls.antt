@@ -4,7 +4,7 @@ use mathlib.Core.List.{List}
 use Prim.Native.Nat.{ℕ, zero, suc, _+_, _-_}
 use lib.Dec.{eqb, leb, ltb}
 use Rattle.promise.specs.Over.{Outcome, outcome}
-use Rattle.refusals.specs.Refusals.{noRoom, notHeld, notInOrder, refused, accepted}
+use Rattle.refusals.specs.Refusals.{noRoom, notHeld, notInOrder, refused, accepted, keepingAt}
 use Rattle.routes.specs.Routes.{route, routeAt, routeCount}
 use Rattle.routes.specs.Check.{prefixFault, routeFault, listCheck}
 use Rattle.refusals.specs.declared.Answer.{Answer}
@@ -16,7 +16,7 @@ use Rattle.table_rules.specs.Withdraw.{withdrawn}
 
 -- "all other results 0 (n as it was ...)", at place 0: "0 for an announce or withdraw"
 abbrev pub keeping : ℕ → ℕ → Answer
-keeping number n = record { number = number; place = 0; count = n }
+keeping number n = keepingAt number 0 n
 
 -- a refusal writes no lent memory
 abbrev pub leaves : ℕ → ℕ → List ℕ → Outcome Answer

@@ -5,7 +5,7 @@ ghost use Prim.Native.Nat.{_-_, _<_};
 ghost use Rattle.table_rows.specs.Words.{fiveWords};
 ghost use Rattle.promise.specs.Over.{outcome};
 ghost use Rattle.routes.specs.Routes.{route, routeAt};
-ghost use Rattle.table_update.specs.Calls.{keeping, announceIn, announceInto, prefixOnly, withdrawIn, withdrawInto, builtFrom, buildInto};
+ghost use Rattle.table_update.specs.Calls.{announceIn, announceInto, prefixOnly, withdrawIn, withdrawInto, builtFrom, buildInto};
 use refusals::Answer;
 use refusals::NO_ROOM;
 use refusals::NOT_HELD;
@@ -15,17 +15,6 @@ use table_change::refilling::take_route;
 use table_change::sinking::is_held;
 use table_change::sinking::put_route;
 use table_rows::capacity_of;
-
-// A refusal of an update: the number of routes stays as it was.
-fn keeping(number: u32, n: u32) -> Answer
-    ensures { λ r. ⌜ r ≡ keeping number n ⌝ }
-{
-    Answer {
-        number,
-        place: 0,
-        count: n,
-    }
-}
 
 // The inner announcement, in a table in good order: a held prefix gets the new port, a new one row n; 9 where there is none.
 fn announce_in(rows: &mut [u32], n: u32, q: Route) -> Answer
@@ -39,7 +28,7 @@ fn announce_in(rows: &mut [u32], n: u32, q: Route) -> Answer
         put_route(rows, n, q);
         return Answer::accepted(n + 1);
     }
-    keeping(NO_ROOM, n)
+    Answer::keeping(NO_ROOM, 0, n)
 }
 
 // The inner withdrawal, in a table in good order; 10 where the prefix is not held.
@@ -50,7 +39,7 @@ fn withdraw_in(rows: &mut [u32], n: u32, q: Route) -> Answer
         take_route(rows, n, q);
         return Answer::accepted(n - 1);
     }
-    keeping(NOT_HELD, n)
+    Answer::keeping(NOT_HELD, 0, n)
 }
 
 // Announces a route to a table of n routes; the count is the new n. Refuses, at place 0: 4, the length is above 32; 5, bits are
@@ -61,12 +50,12 @@ pub fn announce(rows: &mut [u32], n: u32, value: u32, len: u32, port: u32) -> An
     let q = Route { value, len, port };
     let fault = routes::route_fault(q);
     if fault != 0 {
-        return keeping(fault, n);
+        return Answer::keeping(fault, 0, n);
     }
     if table_lookup::is_good(rows, n) {
         return announce_in(rows, n, q);
     }
-    keeping(NOT_IN_ORDER, n)
+    Answer::keeping(NOT_IN_ORDER, 0, n)
 }
 
 // Withdraws a prefix from a table of n routes; the count is the new n. Refuses, at place 0: 4 and 5 as announce does; 11, the
@@ -76,7 +65,7 @@ pub fn withdraw(rows: &mut [u32], n: u32, value: u32, len: u32) -> Answer
 {
     let fault = routes::prefix_fault(value, len);
     if fault != 0 {
-        return keeping(fault, n);
+        return Answer::keeping(fault, 0, n);
     }
     if table_lookup::is_good(rows, n) {
         return withdraw_in(
@@ -89,7 +78,7 @@ pub fn withdraw(rows: &mut [u32], n: u32, value: u32, len: u32) -> Answer
             },
         );
     }
-    keeping(NOT_IN_ORDER, n)
+    Answer::keeping(NOT_IN_ORDER, 0, n)
 }
 
 // The first k routes of a list, each announced into the table of those before it.

@@ -5,10 +5,10 @@ use maftehon::calls::Reply;
 use maftehon::RouteList;
 use workload::segments::{room_for, Stores};
 
-/// What a lookup in C is lent: each store and its length, the address, and three words for the answer.
 type Store = *const u16;
-type Lookup =
-    unsafe extern "C" fn(Store, usize, Store, usize, Store, usize, Store, usize, u32, *mut u32) -> u32;
+
+/// What a lookup in C is lent: each store and its length, the address, and three words for the answer.
+type Lookup = unsafe extern "C" fn(Store, usize, Store, usize, Store, usize, Store, usize, u32, *mut u32) -> u32;
 
 extern "C" {
     fn plain_segments_build(

@@ -31,7 +31,7 @@ fn wide(b: u8) -> u64
     b as u64
 }
 
-// A number, as far as `most`.
+// A number, or `most` where it is larger.
 fn up_to(most: usize, x: usize) -> usize
     ensures { λ r. ⌜ (r ≡ min x most) × (r ≤ most) ⌝ }
 {
@@ -121,7 +121,7 @@ fn value_from(bytes: &[u8], from: usize, len: u32) -> u32
     clear_past(high << (32 - 8 * k), len)
 }
 
-// The prefix of a length, of which more than 32 bits count as 32, from its bytes, or those of them that are there.
+// The prefix of a length from its bytes, or from those of them that are there. A length above 32 counts as 32.
 pub fn prefix_from(bytes: &[u8], from: usize, len: u32) -> Prefix
     ensures { λ r. ⌜ r ≡ prefixFrom 32 (now (bytes .entry)) from (min len 32) ⌝ }
 {

@@ -20,7 +20,7 @@ pub fn races(subject: &Subject) -> Vec<Race<'_>> {
     ]
 }
 
-/// In one race with the trie also C that checks nothing: how near to it a call for each address can come at all.
+/// In one race with the trie also C that checks nothing, to tell what the checks take from what the call and the reads do.
 fn lookup(subject: &Subject) -> Race<'_> {
     let Subject { segments: [first, packed, plain, last], addresses, .. } = subject;
     against_trie(

@@ -1,9 +1,11 @@
 // Bench examples 9, 10 and 11 of the rules, built from their routes and looked up, and builds that are refused. A build's line is
 // `claim`, number, place, nodes, ports; a lookup's is `claim`, number, port, nodes read.
+#![tactic(auto)]
+
 use image_build::build;
 use image_lookup::lookup;
-use libc::STDOUT_FILENO;
 use refusals::found::Found;
+use std::io;
 
 // "Routes 01, 10, 000, 001, 111, 1100, 1101 with ports 1..7", in list order.
 fn seven() -> [u32; 21] {
@@ -13,13 +15,13 @@ fn seven() -> [u32; 21] {
     ]
 }
 
-fn text(s: &[u8]) {
-    io::write_all(STDOUT_FILENO, s);
+fn text(rt: &impl Print, s: &[u8]) -> io::Result<()> {
+    rt.write_all(s)
 }
 
-fn number(x: u32) {
-    text(b" ");
-    io::print_decimal(STDOUT_FILENO, x as u64);
+fn number(rt: &impl Print, x: u32) -> io::Result<()> {
+    text(rt, b" ")?;
+    print!(rt; "{x}")
 }
 
 fn wide(x: u16) -> u32 {
@@ -27,173 +29,188 @@ fn wide(x: u16) -> u32 {
 }
 
 // The bitmaps or the offsets of all nodes lent: part 0 or 1.
-fn show_nodes(claim: &[u8], nodes: &[u32], part: usize) {
-    text(claim);
+fn show_nodes(rt: &impl Print, claim: &[u8], nodes: &[u32], part: usize) -> io::Result<()> {
+    text(rt, claim)?;
     if part < 2 {
         let count = nodes.len() / 2;
         let mut i: usize = 0;
         while i < count {
-            number(nodes[i * 2 + part]);
+            number(rt, nodes[i * 2 + part])?;
             i += 1;
         }
     }
-    text(b"\n");
+    text(rt, b"\n")
 }
 
 // All ports lent.
-fn show_ports(claim: &[u8], ports: &[u16]) {
-    text(claim);
+fn show_ports(rt: &impl Print, claim: &[u8], ports: &[u16]) -> io::Result<()> {
+    text(rt, claim)?;
     let mut i: usize = 0;
     while i < ports.len() {
-        number(wide(ports[i]));
+        number(rt, wide(ports[i]))?;
         i += 1;
     }
-    text(b"\n");
+    text(rt, b"\n")
 }
 
-fn found(claim: &[u8], x: Found) {
-    text(claim);
-    number(x.number);
-    number(x.port);
-    number(x.reads);
-    text(b"\n");
+fn found(rt: &impl Print, claim: &[u8], x: Found) -> io::Result<()> {
+    text(rt, claim)?;
+    number(rt, x.number)?;
+    number(rt, x.port)?;
+    number(rt, x.reads)?;
+    text(rt, b"\n")
 }
 
 // A build of the seven routes into memory for so many nodes and ports as are lent.
-fn built(claim: &[u8], stride: u32, list: &[u32], nodes: &mut [u32], ports: &mut [u16]) {
+fn built(
+    rt: &impl Print,
+    claim: &[u8],
+    stride: u32,
+    list: &[u32],
+    nodes: &mut [u32],
+    ports: &mut [u16],
+) -> io::Result<()> {
     let b = build(stride, list, nodes, ports);
-    text(claim);
-    number(b.number);
-    number(b.place);
-    number(b.nodes);
-    number(b.ports);
-    text(b"\n");
+    text(rt, claim)?;
+    number(rt, b.number)?;
+    number(rt, b.place)?;
+    number(rt, b.nodes)?;
+    number(rt, b.ports)?;
+    text(rt, b"\n")
 }
 
-fn looked(claim: &[u8], stride: u32, address: u32) {
+fn looked(rt: &impl Print, claim: &[u8], stride: u32, address: u32) -> io::Result<()> {
     let mut nodes = [0u32; 12];
     let mut ports = [0u16; 10];
     build(stride, &seven(), &mut nodes, &mut ports);
-    found(claim, lookup(stride, &nodes, &ports, address));
+    found(rt, claim, lookup(stride, &nodes, &ports, address))
 }
 
 // Example 9, in memory for one node and one port more, which stay as they were.
-fn image_9(nodes: &mut [u32], ports: &mut [u16]) {
-    built(b"example_9_is_built", 1, &seven(), nodes, ports);
-    show_nodes(b"example_9_bitmaps", nodes, 0);
-    show_nodes(b"example_9_offsets", nodes, 1);
-    show_ports(b"example_9_ports", ports);
+fn image_9(rt: &impl Print, nodes: &mut [u32], ports: &mut [u16]) -> io::Result<()> {
+    built(rt, b"example_9_is_built", 1, &seven(), nodes, ports)?;
+    show_nodes(rt, b"example_9_bitmaps", nodes, 0)?;
+    show_nodes(rt, b"example_9_offsets", nodes, 1)?;
+    show_ports(rt, b"example_9_ports", ports)
 }
 
-fn example_9() {
+fn example_9(rt: &impl Print) -> io::Result<()> {
     let mut nodes = [77u32; 14];
     let mut ports = [77u16; 8];
-    image_9(&mut nodes, &mut ports);
+    image_9(rt, &mut nodes, &mut ports)
 }
 
-fn addresses_9() {
-    looked(b"stride_1_address_0101", 1, 1342177280);
-    looked(b"stride_1_address_000", 1, 0);
-    looked(b"stride_1_address_001", 1, 536870912);
-    looked(b"stride_1_address_10", 1, 2147483648);
-    looked(b"stride_1_address_1100", 1, 3221225472);
-    looked(b"stride_1_address_1101", 1, 3489660928);
-    looked(b"stride_1_last_address", 1, 4294967295);
+fn addresses_9(rt: &impl Print) -> io::Result<()> {
+    looked(rt, b"stride_1_address_0101", 1, 1342177280)?;
+    looked(rt, b"stride_1_address_000", 1, 0)?;
+    looked(rt, b"stride_1_address_001", 1, 536870912)?;
+    looked(rt, b"stride_1_address_10", 1, 2147483648)?;
+    looked(rt, b"stride_1_address_1100", 1, 3221225472)?;
+    looked(rt, b"stride_1_address_1101", 1, 3489660928)?;
+    looked(rt, b"stride_1_last_address", 1, 4294967295)
 }
 
-fn image_10(nodes: &mut [u32], ports: &mut [u16]) {
-    built(b"example_10_is_built", 2, &seven(), nodes, ports);
-    show_nodes(b"example_10_bitmaps", nodes, 0);
-    show_nodes(b"example_10_offsets", nodes, 1);
-    show_ports(b"example_10_ports", ports);
+fn image_10(rt: &impl Print, nodes: &mut [u32], ports: &mut [u16]) -> io::Result<()> {
+    built(rt, b"example_10_is_built", 2, &seven(), nodes, ports)?;
+    show_nodes(rt, b"example_10_bitmaps", nodes, 0)?;
+    show_nodes(rt, b"example_10_offsets", nodes, 1)?;
+    show_ports(rt, b"example_10_ports", ports)
 }
 
-fn example_10() {
+fn example_10(rt: &impl Print) -> io::Result<()> {
     let mut nodes = [77u32; 6];
     let mut ports = [77u16; 10];
-    image_10(&mut nodes, &mut ports);
+    image_10(rt, &mut nodes, &mut ports)
 }
 
-fn addresses_10() {
-    looked(b"stride_2_address_0101", 2, 1342177280);
-    looked(b"stride_2_address_000", 2, 0);
-    looked(b"stride_2_address_001", 2, 536870912);
-    looked(b"stride_2_address_10", 2, 2147483648);
-    looked(b"stride_2_address_1101", 2, 3489660928);
-    looked(b"stride_2_last_address", 2, 4294967295);
+fn addresses_10(rt: &impl Print) -> io::Result<()> {
+    looked(rt, b"stride_2_address_0101", 2, 1342177280)?;
+    looked(rt, b"stride_2_address_000", 2, 0)?;
+    looked(rt, b"stride_2_address_001", 2, 536870912)?;
+    looked(rt, b"stride_2_address_10", 2, 2147483648)?;
+    looked(rt, b"stride_2_address_1101", 2, 3489660928)?;
+    looked(rt, b"stride_2_last_address", 2, 4294967295)
 }
 
-fn image_11(nodes: &mut [u32], ports: &mut [u16]) {
+fn image_11(rt: &impl Print, nodes: &mut [u32], ports: &mut [u16]) -> io::Result<()> {
     let none = [0u32; 0];
-    built(b"example_11_is_built", 4, &none, nodes, ports);
-    show_nodes(b"example_11_bitmap", nodes, 0);
-    show_nodes(b"example_11_offset", nodes, 1);
-    show_ports(b"example_11_ports", ports);
+    built(rt, b"example_11_is_built", 4, &none, nodes, ports)?;
+    show_nodes(rt, b"example_11_bitmap", nodes, 0)?;
+    show_nodes(rt, b"example_11_offset", nodes, 1)?;
+    show_ports(rt, b"example_11_ports", ports)
 }
 
-fn addresses_11(nodes: &[u32], ports: &[u16]) {
-    found(b"empty_image_address_0", lookup(4, nodes, ports, 0));
+fn addresses_11(rt: &impl Print, nodes: &[u32], ports: &[u16]) -> io::Result<()> {
+    found(rt, b"empty_image_address_0", lookup(4, nodes, ports, 0))?;
     found(
+        rt,
         b"empty_image_last_address",
         lookup(4, nodes, ports, 4294967295),
-    );
+    )
 }
 
-fn example_11() {
+fn example_11(rt: &impl Print) -> io::Result<()> {
     let mut nodes = [77u32; 2];
     let mut ports = [77u16; 16];
-    image_11(&mut nodes, &mut ports);
-    addresses_11(&nodes, &ports);
+    image_11(rt, &mut nodes, &mut ports)?;
+    addresses_11(rt, &nodes, &ports)
 }
 
 // A build that is refused writes nothing.
-fn refused(claim: &[u8], stride: u32, list: &[u32], nodes: &mut [u32], ports: &mut [u16]) {
-    built(claim, stride, list, nodes, ports);
-    show_ports(b"no_port_is_written", ports);
-    show_nodes(b"no_bitmap_is_written", nodes, 0);
+fn refused(
+    rt: &impl Print,
+    claim: &[u8],
+    stride: u32,
+    list: &[u32],
+    nodes: &mut [u32],
+    ports: &mut [u16],
+) -> io::Result<()> {
+    built(rt, claim, stride, list, nodes, ports)?;
+    show_ports(rt, b"no_port_is_written", ports)?;
+    show_nodes(rt, b"no_bitmap_is_written", nodes, 0)
 }
 
 // The seven routes, or another list, into memory for six nodes and seven ports.
-fn refused_list(claim: &[u8], stride: u32, list: &[u32]) {
+fn refused_list(rt: &impl Print, claim: &[u8], stride: u32, list: &[u32]) -> io::Result<()> {
     let mut nodes = [77u32; 12];
     let mut ports = [77u16; 7];
-    refused(claim, stride, list, &mut nodes, &mut ports);
+    refused(rt, claim, stride, list, &mut nodes, &mut ports)
 }
 
-fn refusals() {
-    refused_list(b"stride_3_is_refused_12", 3, &seven());
-    refused_list(b"stride_0_before_the_list_checks", 0, &[0, 0, 0, 0]);
-    refused_list(b"no_whole_routes_is_refused_3", 1, &[0, 0, 0, 0]);
-    refused_list(b"length_33_is_refused_4", 1, &[0, 33, 1]);
-    refused_list(b"spare_bits_are_refused_5", 1, &[1, 31, 1]);
-    refused_list(b"port_0_is_refused_6", 1, &[0, 0, 0]);
-    refused_list(b"the_second_route_is_refused_7", 1, &[0, 1, 1, 0, 1, 2]);
+fn refusals(rt: &impl Print) -> io::Result<()> {
+    refused_list(rt, b"stride_3_is_refused_12", 3, &seven())?;
+    refused_list(rt, b"stride_0_before_the_list_checks", 0, &[0, 0, 0, 0])?;
+    refused_list(rt, b"no_whole_routes_is_refused_3", 1, &[0, 0, 0, 0])?;
+    refused_list(rt, b"length_33_is_refused_4", 1, &[0, 33, 1])?;
+    refused_list(rt, b"spare_bits_are_refused_5", 1, &[1, 31, 1])?;
+    refused_list(rt, b"port_0_is_refused_6", 1, &[0, 0, 0])?;
+    refused_list(rt, b"the_second_route_is_refused_7", 1, &[0, 1, 1, 0, 1, 2])
 }
 
-fn short_nodes(claim: &[u8], list: &[u32]) {
+fn short_nodes(rt: &impl Print, claim: &[u8], list: &[u32]) -> io::Result<()> {
     let mut nodes = [77u32; 11];
     let mut ports = [77u16; 7];
-    refused(claim, 1, list, &mut nodes, &mut ports);
+    refused(rt, claim, 1, list, &mut nodes, &mut ports)
 }
 
-fn short_ports(claim: &[u8], list: &[u32]) {
+fn short_ports(rt: &impl Print, claim: &[u8], list: &[u32]) -> io::Result<()> {
     let mut nodes = [77u32; 12];
     let mut ports = [77u16; 6];
-    refused(claim, 1, list, &mut nodes, &mut ports);
+    refused(rt, claim, 1, list, &mut nodes, &mut ports)
 }
 
-fn no_room() {
-    short_nodes(b"list_checks_before_9", &[0, 1, 1, 0, 1, 2]);
-    short_nodes(b"a_node_too_few_is_refused_9", &seven());
-    short_ports(b"a_port_too_few_is_refused_9", &seven());
+fn no_room(rt: &impl Print) -> io::Result<()> {
+    short_nodes(rt, b"list_checks_before_9", &[0, 1, 1, 0, 1, 2])?;
+    short_nodes(rt, b"a_node_too_few_is_refused_9", &seven())?;
+    short_ports(rt, b"a_port_too_few_is_refused_9", &seven())
 }
 
-fn main() {
-    example_9();
-    addresses_9();
-    example_10();
-    addresses_10();
-    example_11();
-    refusals();
-    no_room();
+fn main(rt: HostRuntime) -> io::Result<()> {
+    example_9(&rt)?;
+    addresses_9(&rt)?;
+    example_10(&rt)?;
+    addresses_10(&rt)?;
+    example_11(&rt)?;
+    refusals(&rt)?;
+    no_room(&rt)
 }

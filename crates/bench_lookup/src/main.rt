@@ -1,8 +1,10 @@
 // RULES, "Examples", 1 to 7, run; their table damaged in each way that is refused; and
 // that table saved as a list. A line is `claim`, the lookup's number, port and rows read, and the number that the check answers.
-use libc::STDOUT_FILENO;
+#![tactic(auto)]
+
 use refusals::found::Found;
 use routes::route_at;
+use std::io;
 use table_lookup::{check, lookup};
 use table_rows::{capacity_of, store_row};
 use table_rules::Row;
@@ -42,29 +44,29 @@ fn table_i() -> [u32; 50] {
     rows
 }
 
-fn text(s: &[u8]) {
-    io::write_all(STDOUT_FILENO, s);
+fn text(rt: &impl Print, s: &[u8]) -> io::Result<()> {
+    rt.write_all(s)
 }
 
-fn number(x: u32) {
-    text(b" ");
-    io::print_decimal(STDOUT_FILENO, x as u64);
+fn number(rt: &impl Print, x: u32) -> io::Result<()> {
+    text(rt, b" ")?;
+    print!(rt; "{x}")
 }
 
-fn show(claim: &[u8], rows: &[u32], n: u32, address: u32) {
+fn show(rt: &impl Print, claim: &[u8], rows: &[u32], n: u32, address: u32) -> io::Result<()> {
     let found: Found = lookup(rows, n, address);
     let checked = check(rows, n);
-    text(claim);
-    number(found.number);
-    number(found.port);
-    number(found.reads);
-    number(checked.number);
-    text(b"\n");
+    text(rt, claim)?;
+    number(rt, found.number)?;
+    number(rt, found.port)?;
+    number(rt, found.reads)?;
+    number(rt, checked.number)?;
+    text(rt, b"\n")
 }
 
 // Table I as it is.
-fn whole(claim: &[u8], address: u32) {
-    show(claim, &table_i(), 10, address);
+fn whole(rt: &impl Print, claim: &[u8], address: u32) -> io::Result<()> {
+    show(rt, claim, &table_i(), 10, address)
 }
 
 // Table I with one word changed.
@@ -76,94 +78,95 @@ fn changed(at: usize, word: u32) -> [u32; 50] {
     rows
 }
 
-fn damaged(claim: &[u8], at: usize, word: u32, address: u32) {
+fn damaged(rt: &impl Print, claim: &[u8], at: usize, word: u32, address: u32) -> io::Result<()> {
     let rows = changed(at, word);
-    show(claim, &rows, 10, address);
+    show(rt, claim, &rows, 10, address)
 }
 
-fn examples() {
-    whole(b"100110_is_row_0", 2550136832);
-    whole(b"00_is_row_1", 0);
-    whole(b"10010_is_row_2", 2415919104);
-    whole(b"1000_is_row_6", 2147483648);
-    whole(b"101_is_row_7", 2684354560);
-    whole(b"1101_is_row_5", 3489660928);
-    whole(b"1111_is_row_9", 4026531840);
-    show(b"no_rows_read_of_an_empty_table", &table_i(), 0, 0);
+fn examples(rt: &impl Print) -> io::Result<()> {
+    whole(rt, b"100110_is_row_0", 2550136832)?;
+    whole(rt, b"00_is_row_1", 0)?;
+    whole(rt, b"10010_is_row_2", 2415919104)?;
+    whole(rt, b"1000_is_row_6", 2147483648)?;
+    whole(rt, b"101_is_row_7", 2684354560)?;
+    whole(rt, b"1101_is_row_5", 3489660928)?;
+    whole(rt, b"1111_is_row_9", 4026531840)?;
+    show(rt, b"no_rows_read_of_an_empty_table", &table_i(), 0, 0)
 }
 
 // "It answers 11 if n exceeds the capacity (no row read), or if a row read has": in the order of the rules. The word is number
 // 5 r + k, for word k of row r.
-fn refusals() {
-    show(b"n_past_the_rows_lent", &table_i(), 11, 0);
-    damaged(b"left_child_n", 3, 10, 0);
-    damaged(b"right_child_n", 14, 10, 2415919104);
-    damaged(b"length_33", 1, 33, 0);
-    damaged(b"length_below_the_depth", 31, 2, 2147483648);
-    damaged(b"bits_past_the_length", 10, 2415919105, 2415919104);
-    damaged(b"port_0", 32, 0, 2147483648);
-    damaged(b"port_4095", 37, 4095, 2684354560);
-    damaged(b"prefix_off_the_path", 25, 1073741824, 3489660928);
+fn refusals(rt: &impl Print) -> io::Result<()> {
+    show(rt, b"n_past_the_rows_lent", &table_i(), 11, 0)?;
+    damaged(rt, b"left_child_n", 3, 10, 0)?;
+    damaged(rt, b"right_child_n", 14, 10, 2415919104)?;
+    damaged(rt, b"length_33", 1, 33, 0)?;
+    damaged(rt, b"length_below_the_depth", 31, 2, 2147483648)?;
+    damaged(rt, b"bits_past_the_length", 10, 2415919105, 2415919104)?;
+    damaged(rt, b"port_0", 32, 0, 2147483648)?;
+    damaged(rt, b"port_4095", 37, 4095, 2684354560)?;
+    damaged(rt, b"prefix_off_the_path", 25, 1073741824, 3489660928)
 }
 
 // What only the check sees, since the lookup does not come by.
-fn good_order() {
-    damaged(b"row_9_is_not_reached", 44, 0, 0);
-    damaged(b"row_1_below_itself", 18, 1, 0);
-    damaged(b"row_7_is_reached_twice", 33, 7, 2684354560);
-    damaged(b"one_prefix_twice", 1, 5, 2550136832);
+fn good_order(rt: &impl Print) -> io::Result<()> {
+    damaged(rt, b"row_9_is_not_reached", 44, 0, 0)?;
+    damaged(rt, b"row_1_below_itself", 18, 1, 0)?;
+    damaged(rt, b"row_7_is_reached_twice", 33, 7, 2684354560)?;
+    damaged(rt, b"one_prefix_twice", 1, 5, 2550136832)
 }
 
 // A line is `claim`, the number, the place and the routes that the saving answers.
-fn save_into(claim: &[u8], rows: &[u32], list: &mut [u32]) {
+fn save_into(rt: &impl Print, claim: &[u8], rows: &[u32], list: &mut [u32]) -> io::Result<()> {
     let answer = save(rows, 10, list);
-    text(claim);
-    number(answer.number);
-    number(answer.place);
-    number(answer.count);
-    text(b"\n");
+    text(rt, claim)?;
+    number(rt, answer.number)?;
+    number(rt, answer.place)?;
+    number(rt, answer.count)?;
+    text(rt, b"\n")
 }
 
-fn show_route(claim: &[u8], list: &[u32], i: usize) {
+fn show_route(rt: &impl Print, claim: &[u8], list: &[u32], i: usize) -> io::Result<()> {
     let route = route_at(list, i);
-    text(claim);
-    number(route.value);
-    number(route.len);
-    number(route.port);
-    text(b"\n");
+    text(rt, claim)?;
+    number(rt, route.value)?;
+    number(rt, route.len)?;
+    number(rt, route.port)?;
+    text(rt, b"\n")
 }
 
-fn show_saved(list: &[u32]) {
-    show_route(b"first_00", list, 0);
-    show_route(b"then_01", list, 1);
-    show_route(b"then_1000", list, 2);
-    show_route(b"then_10010", list, 3);
-    show_route(b"then_10011", list, 4);
-    show_route(b"then_100110", list, 5);
-    show_route(b"then_101", list, 6);
-    show_route(b"then_11", list, 7);
-    show_route(b"then_1110", list, 8);
-    show_route(b"last_1111", list, 9);
-    show_route(b"the_words_past_them_are_as_they_were", list, 10);
+fn show_saved(rt: &impl Print, list: &[u32]) -> io::Result<()> {
+    show_route(rt, b"first_00", list, 0)?;
+    show_route(rt, b"then_01", list, 1)?;
+    show_route(rt, b"then_1000", list, 2)?;
+    show_route(rt, b"then_10010", list, 3)?;
+    show_route(rt, b"then_10011", list, 4)?;
+    show_route(rt, b"then_100110", list, 5)?;
+    show_route(rt, b"then_101", list, 6)?;
+    show_route(rt, b"then_11", list, 7)?;
+    show_route(rt, b"then_1110", list, 8)?;
+    show_route(rt, b"last_1111", list, 9)?;
+    show_route(rt, b"the_words_past_them_are_as_they_were", list, 10)
 }
 
-fn saving() {
+fn saving(rt: &impl Print) -> io::Result<()> {
     let mut short = [0u32; 29];
-    save_into(b"no_room_for_10_routes", &table_i(), &mut short);
-    show_route(b"nothing_is_written", &short, 0);
+    save_into(rt, b"no_room_for_10_routes", &table_i(), &mut short)?;
+    show_route(rt, b"nothing_is_written", &short, 0)?;
     save_into(
+        rt,
         b"not_in_good_order_comes_first",
         &changed(1, 33),
         &mut short,
-    );
+    )?;
     let mut list = [7u32; 33];
-    save_into(b"10_routes_are_saved", &table_i(), &mut list);
-    show_saved(&list);
+    save_into(rt, b"10_routes_are_saved", &table_i(), &mut list)?;
+    show_saved(rt, &list)
 }
 
-fn main() {
-    examples();
-    refusals();
-    good_order();
-    saving();
+fn main(rt: HostRuntime) -> io::Result<()> {
+    examples(&rt)?;
+    refusals(&rt)?;
+    good_order(&rt)?;
+    saving(&rt)
 }

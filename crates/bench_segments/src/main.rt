@@ -1,25 +1,27 @@
 // The segment tables of 68 routes, built and looked up in, and builds and lookups that are refused. A build's line is `claim`, number,
 // place, packed segments, plain segments, last blocks; a lookup's is `claim`, number, port, words read; an entry's is `claim` and the
 // entry; that of a segment's entries is `claim`, where they begin in their store, how many.
-use libc::STDOUT_FILENO;
+#![tactic(auto)]
+
 use refusals::found::Found;
 use routes::{Route, store_route};
 use segment_build::build;
 use segment_entries::part_of;
 use segment_lookup::lookup;
+use std::io;
 
-fn text(s: &[u8]) {
-    io::write_all(STDOUT_FILENO, s);
+fn text(rt: &impl Print, s: &[u8]) -> io::Result<()> {
+    rt.write_all(s)
 }
 
-fn number(x: u32) {
-    text(b" ");
-    io::print_decimal(STDOUT_FILENO, x as u64);
+fn number(rt: &impl Print, x: u32) -> io::Result<()> {
+    text(rt, b" ")?;
+    print!(rt; "{x}")
 }
 
-fn place(x: usize) {
-    text(b" ");
-    io::print_decimal(STDOUT_FILENO, x as u64);
+fn place(rt: &impl Print, x: usize) -> io::Result<()> {
+    text(rt, b" ")?;
+    print!(rt; "{x}")
 }
 
 fn wide(x: u16) -> u32 {
@@ -27,45 +29,52 @@ fn wide(x: u16) -> u32 {
 }
 
 fn built(
+    rt: &impl Print,
     claim: &[u8],
     list: &[u32],
     first: &mut [u16],
     packed: &mut [u16],
     plain: &mut [u16],
     last: &mut [u16],
-) {
+) -> io::Result<()> {
     let b = build(list, first, packed, plain, last);
-    text(claim);
-    number(b.number);
-    number(b.place);
-    number(b.packed);
-    number(b.plain);
-    number(b.last);
-    text(b"\n");
+    text(rt, claim)?;
+    number(rt, b.number)?;
+    number(rt, b.place)?;
+    number(rt, b.packed)?;
+    number(rt, b.plain)?;
+    number(rt, b.last)?;
+    text(rt, b"\n")
 }
 
-fn found(claim: &[u8], x: Found) {
-    text(claim);
-    number(x.number);
-    number(x.port);
-    number(x.reads);
-    text(b"\n");
+fn found(rt: &impl Print, claim: &[u8], x: Found) -> io::Result<()> {
+    text(rt, claim)?;
+    number(rt, x.number)?;
+    number(rt, x.port)?;
+    number(rt, x.reads)?;
+    text(rt, b"\n")
 }
 
-fn entry(claim: &[u8], store: &[u16], at: usize) {
-    text(claim);
+fn entry(rt: &impl Print, claim: &[u8], store: &[u16], at: usize) -> io::Result<()> {
+    text(rt, claim)?;
     if at < store.len() {
-        number(wide(store[at]));
+        number(rt, wide(store[at]))?;
     }
-    text(b"\n");
+    text(rt, b"\n")
 }
 
-fn part(claim: &[u8], packed: &[u16], plain: &[u16], entry: u32) {
+fn part(
+    rt: &impl Print,
+    claim: &[u8],
+    packed: &[u16],
+    plain: &[u16],
+    entry: u32,
+) -> io::Result<()> {
     let p = part_of(packed.len(), plain.len(), entry);
-    text(claim);
-    place(p.from);
-    place(p.count);
-    text(b"\n");
+    text(rt, claim)?;
+    place(rt, p.from)?;
+    place(rt, p.count)?;
+    text(rt, b"\n")
 }
 
 fn route(value: u32, len: u32, port: u32) -> Route {
@@ -99,146 +108,172 @@ fn store_routes(list: &mut [u32]) {
 }
 
 // Each store one word short of three packed segments, a plain one and a last block.
-fn short_first(list: &[u32]) {
+fn short_first(rt: &impl Print, list: &[u32]) -> io::Result<()> {
     let mut first = [0u16; 65535];
     let mut packed = [0u16; 288];
     let mut plain = [0u16; 256];
     let mut last = [0u16; 256];
     built(
+        rt,
         b"65535_first_entries_are_refused_9",
         list,
         &mut first,
         &mut packed,
         &mut plain,
         &mut last,
-    );
+    )
 }
 
-fn short_packed(list: &[u32]) {
+fn short_packed(rt: &impl Print, list: &[u32]) -> io::Result<()> {
     let mut first = [0u16; 65536];
     let mut packed = [0u16; 287];
     let mut plain = [0u16; 256];
     let mut last = [0u16; 256];
     built(
+        rt,
         b"287_packed_words_are_refused_9",
         list,
         &mut first,
         &mut packed,
         &mut plain,
         &mut last,
-    );
+    )
 }
 
-fn short_plain(list: &[u32]) {
+fn short_plain(rt: &impl Print, list: &[u32]) -> io::Result<()> {
     let mut first = [0u16; 65536];
     let mut packed = [0u16; 288];
     let mut plain = [0u16; 255];
     let mut last = [0u16; 256];
     built(
+        rt,
         b"255_plain_words_are_refused_9",
         list,
         &mut first,
         &mut packed,
         &mut plain,
         &mut last,
-    );
+    )
 }
 
-fn short_last(list: &[u32]) {
+fn short_last(rt: &impl Print, list: &[u32]) -> io::Result<()> {
     let mut first = [77u16; 65536];
     let mut packed = [0u16; 288];
     let mut plain = [0u16; 256];
     let mut last = [0u16; 255];
     built(
+        rt,
         b"255_last_words_are_refused_9",
         list,
         &mut first,
         &mut packed,
         &mut plain,
         &mut last,
-    );
-    entry(b"no_entry_is_written", &first, 2304);
+    )?;
+    entry(rt, b"no_entry_is_written", &first, 2304)
 }
 
-fn entries_of(first: &[u16], plain: &[u16]) {
+fn entries_of(rt: &impl Print, first: &[u16], plain: &[u16]) -> io::Result<()> {
     entry(
+        rt,
         b"a_longer_route_of_the_same_port_makes_a_pointer",
         first,
         2304,
-    );
-    entry(b"64_ones_are_packed", first, 2560);
-    entry(b"65_ones_are_plain", first, 2561);
-    entry(b"a_route_of_16_bits_makes_no_pointer", first, 2562);
-    entry(b"a_route_of_24_bits_makes_no_pointer", plain, 1);
+    )?;
+    entry(rt, b"64_ones_are_packed", first, 2560)?;
+    entry(rt, b"65_ones_are_plain", first, 2561)?;
+    entry(rt, b"a_route_of_16_bits_makes_no_pointer", first, 2562)?;
+    entry(rt, b"a_route_of_24_bits_makes_no_pointer", plain, 1)
 }
 
-fn addresses(first: &[u16], packed: &[u16], plain: &[u16], last: &[u16]) {
+fn addresses(
+    rt: &impl Print,
+    first: &[u16],
+    packed: &[u16],
+    plain: &[u16],
+    last: &[u16],
+) -> io::Result<()> {
     found(
+        rt,
         b"a_port_takes_1_read",
         lookup(first, packed, plain, last, 167903233),
-    );
+    )?;
     found(
+        rt,
         b"a_plain_segment_takes_2_reads",
         lookup(first, packed, plain, last, 167853825),
-    );
+    )?;
     found(
+        rt,
         b"a_packed_segment_takes_3_reads",
         lookup(first, packed, plain, last, 167788033),
-    );
+    )?;
     found(
+        rt,
         b"a_last_block_takes_1_more",
         lookup(first, packed, plain, last, 167969151),
-    );
+    )
 }
 
-fn parts(packed: &[u16], plain: &[u16]) {
-    part(b"the_entries_of_a_packed_segment", packed, plain, 32769);
-    part(b"the_entries_of_a_plain_segment", packed, plain, 49152);
-    part(b"a_port_names_no_entries", packed, plain, 7);
+fn parts(rt: &impl Print, packed: &[u16], plain: &[u16]) -> io::Result<()> {
+    part(rt, b"the_entries_of_a_packed_segment", packed, plain, 32769)?;
+    part(rt, b"the_entries_of_a_plain_segment", packed, plain, 49152)?;
+    part(rt, b"a_port_names_no_entries", packed, plain, 7)
 }
 
 fn tables(
+    rt: &impl Print,
     list: &[u32],
     first: &mut [u16],
     packed: &mut [u16],
     plain: &mut [u16],
     last: &mut [u16],
-) {
-    built(b"the_tables_are_built", list, first, packed, plain, last);
-    entries_of(first, plain);
-    addresses(first, packed, plain, last);
-    parts(packed, plain);
+) -> io::Result<()> {
+    built(
+        rt,
+        b"the_tables_are_built",
+        list,
+        first,
+        packed,
+        plain,
+        last,
+    )?;
+    entries_of(rt, first, plain)?;
+    addresses(rt, first, packed, plain, last)?;
+    parts(rt, packed, plain)
 }
 
-fn whole(list: &[u32]) {
+fn whole(rt: &impl Print, list: &[u32]) -> io::Result<()> {
     let mut first = [0u16; 65536];
     let mut packed = [0u16; 288];
     let mut plain = [0u16; 256];
     let mut last = [0u16; 256];
-    tables(list, &mut first, &mut packed, &mut plain, &mut last);
+    tables(rt, list, &mut first, &mut packed, &mut plain, &mut last)
 }
 
 // The index of an entry in a packed block of zeros is -1.
-fn damages() {
+fn damages(rt: &impl Print) -> io::Result<()> {
     let first = [32768u16; 65536];
     let packed = [0u16; 96];
     found(
+        rt,
         b"a_codeword_of_0_is_refused_11",
         lookup(&first, &packed, &[], &[], 0),
-    );
+    )?;
     found(
+        rt,
         b"65535_first_entries_are_refused_11",
         lookup(&[0u16; 65535], &packed, &[], &[], 0),
-    );
+    )
 }
 
-fn main() {
+fn main(rt: HostRuntime) -> io::Result<()> {
     let mut list = [0u32; 204];
     store_routes(&mut list);
-    whole(&list);
-    short_first(&list);
-    short_packed(&list);
-    short_plain(&list);
-    short_last(&list);
-    damages();
+    whole(&rt, &list)?;
+    short_first(&rt, &list)?;
+    short_packed(&rt, &list)?;
+    short_plain(&rt, &list)?;
+    short_last(&rt, &list)?;
+    damages(&rt)
 }

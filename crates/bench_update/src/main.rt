@@ -1,7 +1,9 @@
 // RULES, "Examples", 8, run: its table, built and then changed, with every row shown; the calls that
 // are refused; a longer route below a shorter one that comes and goes; and one that the place of a withdrawn one is filled with.
-use libc::STDOUT_FILENO;
+#![tactic(auto)]
+
 use refusals::Answer;
+use std::io;
 use table_lookup::lookup;
 use table_update::{announce, build, withdraw};
 
@@ -16,134 +18,156 @@ const TABLE_I: [u32; 60] = [
 // /0, 0 and 0110.
 const NESTED: [u32; 9] = [0, 0, 1, 0, 1, 2, 1610612736, 4, 3];
 
-fn text(s: &[u8]) {
-    io::write_all(STDOUT_FILENO, s);
+fn text(rt: &impl Print, s: &[u8]) -> io::Result<()> {
+    rt.write_all(s)
 }
 
-fn number(x: u32) {
-    text(b" ");
-    io::print_decimal(STDOUT_FILENO, x as u64);
+fn number(rt: &impl Print, x: u32) -> io::Result<()> {
+    text(rt, b" ")?;
+    print!(rt; "{x}")
 }
 
 // A line is `claim`, the number, the place and the routes that the call answers.
-fn show(claim: &[u8], answer: Answer) {
-    text(claim);
-    number(answer.number);
-    number(answer.place);
-    number(answer.count);
-    text(b"\n");
+fn show(rt: &impl Print, claim: &[u8], answer: Answer) -> io::Result<()> {
+    text(rt, claim)?;
+    number(rt, answer.number)?;
+    number(rt, answer.place)?;
+    number(rt, answer.count)?;
+    text(rt, b"\n")
 }
 
 // A line of all the words: five for each row.
-fn show_words(words: &[u32]) {
+fn show_words(rt: &impl Print, words: &[u32]) -> io::Result<()> {
     let mut i: usize = 0;
     while i < words.len() {
-        number(words[i]);
+        number(rt, words[i])?;
         i += 1;
     }
-    text(b"\n");
+    text(rt, b"\n")
 }
 
-fn show_port(claim: &[u8], rows: &[u32], n: u32, address: u32) {
+fn show_port(rt: &impl Print, claim: &[u8], rows: &[u32], n: u32, address: u32) -> io::Result<()> {
     let found = lookup(rows, n, address);
-    text(claim);
-    number(found.number);
-    number(found.port);
-    number(found.reads);
-    text(b"\n");
+    text(rt, claim)?;
+    number(rt, found.number)?;
+    number(rt, found.port)?;
+    number(rt, found.reads)?;
+    text(rt, b"\n")
 }
 
 // "Withdraw 100110: row 0 holds 10010, row 2 10011, row 4 1000 with children (-,7); 1111 moves to row 6, row 8's right child is
 // 6, row 9 is zeros."
-fn example_8() {
+fn example_8(rt: &impl Print) -> io::Result<()> {
     let mut rows = TABLE_I;
     show(
+        rt,
         b"100110_is_withdrawn",
         withdraw(&mut rows, 10, 2550136832, 6),
-    );
-    show_words(&rows);
+    )?;
+    show_words(rt, &rows)?;
     show(
+        rt,
         b"and_announced_again",
         announce(&mut rows, 9, 2550136832, 6, 1),
-    );
-    show_words(&rows);
+    )?;
+    show_words(rt, &rows)?;
     show(
+        rt,
         b"a_held_prefix_gets_the_new_port",
         announce(&mut rows, 10, 2550136832, 6, 4094),
-    );
-    show_port(b"which_the_lookup_answers", &rows, 10, 2550136832);
+    )?;
+    show_port(rt, b"which_the_lookup_answers", &rows, 10, 2550136832)
 }
 
-fn refusals() {
+fn refusals(rt: &impl Print) -> io::Result<()> {
     let mut rows = TABLE_I;
-    show(b"length_33", announce(&mut rows, 10, 0, 33, 1));
-    show(b"bits_past_the_length", announce(&mut rows, 10, 1, 31, 1));
-    show(b"port_0", announce(&mut rows, 10, 0, 1, 0));
-    show(b"port_4095", announce(&mut rows, 10, 0, 1, 4095));
-    show(b"not_in_good_order", announce(&mut rows, 11, 0, 1, 1));
-    show(b"withdrawal_of_length_33", withdraw(&mut rows, 10, 0, 33));
+    show(rt, b"length_33", announce(&mut rows, 10, 0, 33, 1))?;
     show(
+        rt,
+        b"bits_past_the_length",
+        announce(&mut rows, 10, 1, 31, 1),
+    )?;
+    show(rt, b"port_0", announce(&mut rows, 10, 0, 1, 0))?;
+    show(rt, b"port_4095", announce(&mut rows, 10, 0, 1, 4095))?;
+    show(rt, b"not_in_good_order", announce(&mut rows, 11, 0, 1, 1))?;
+    show(
+        rt,
+        b"withdrawal_of_length_33",
+        withdraw(&mut rows, 10, 0, 33),
+    )?;
+    show(
+        rt,
         b"withdrawal_with_bits_past_the_length",
         withdraw(&mut rows, 10, 1, 31),
-    );
+    )?;
     show(
+        rt,
         b"withdrawal_from_a_table_not_in_good_order",
         withdraw(&mut rows, 11, 0, 2),
-    );
+    )?;
     show(
+        rt,
         b"withdrawal_of_a_prefix_not_held",
         withdraw(&mut rows, 10, 0, 1),
-    );
-    show(b"two_rows_are_free", announce(&mut rows, 10, 0, 1, 1));
-    show(b"now_one", announce(&mut rows, 11, 0, 3, 1));
-    show(b"now_none", announce(&mut rows, 12, 0, 4, 1));
+    )?;
+    show(rt, b"two_rows_are_free", announce(&mut rows, 10, 0, 1, 1))?;
+    show(rt, b"now_one", announce(&mut rows, 11, 0, 3, 1))?;
+    show(rt, b"now_none", announce(&mut rows, 12, 0, 4, 1))?;
     show(
+        rt,
         b"but_a_held_prefix_needs_none",
         announce(&mut rows, 12, 0, 3, 2),
-    );
+    )
 }
 
 // The longer route leaves no trace where the search no longer comes.
-fn nested() {
+fn nested(rt: &impl Print) -> io::Result<()> {
     let mut rows = [0u32; 15];
     show(
+        rt,
         b"no_row_for_the_third_route",
         build(&NESTED, &mut [0u32; 14]),
-    );
-    show(b"three_nested_routes_are_built", build(&NESTED, &mut rows));
-    show_words(&rows);
-    show_port(b"0110_goes_to_the_longest", &rows, 3, 1610612736);
-    show_port(b"0111_to_the_shorter", &rows, 3, 1879048192);
+    )?;
     show(
+        rt,
+        b"three_nested_routes_are_built",
+        build(&NESTED, &mut rows),
+    )?;
+    show_words(rt, &rows)?;
+    show_port(rt, b"0110_goes_to_the_longest", &rows, 3, 1610612736)?;
+    show_port(rt, b"0111_to_the_shorter", &rows, 3, 1879048192)?;
+    show(
+        rt,
         b"the_longest_is_withdrawn",
         withdraw(&mut rows, 3, 1610612736, 4),
-    );
-    show_words(&rows);
-    show_port(b"0110_goes_to_the_shorter", &rows, 2, 1610612736);
-    show(b"then_the_whole_space", withdraw(&mut rows, 2, 0, 0));
-    show_port(b"1_goes_nowhere", &rows, 1, 2147483648);
-    show(b"then_the_last", withdraw(&mut rows, 1, 0, 1));
-    show_words(&rows);
+    )?;
+    show_words(rt, &rows)?;
+    show_port(rt, b"0110_goes_to_the_shorter", &rows, 2, 1610612736)?;
+    show(rt, b"then_the_whole_space", withdraw(&mut rows, 2, 0, 0))?;
+    show_port(rt, b"1_goes_nowhere", &rows, 1, 2147483648)?;
+    show(rt, b"then_the_last", withdraw(&mut rows, 1, 0, 1))?;
+    show_words(rt, &rows)
 }
 
 // "With routes /0, 0 and 0110, withdrawing /0 puts 0110 at the root, since 0 is ordinary and hides a longer one." The fourth row is
 // past the table and stays.
-fn hidden() {
+fn hidden(rt: &impl Print) -> io::Result<()> {
     let mut rows = [7u32; 20];
-    show(b"three_routes_one_hidden", build(&NESTED, &mut rows));
+    show(rt, b"three_routes_one_hidden", build(&NESTED, &mut rows))?;
     show(
+        rt,
         b"the_whole_space_is_withdrawn",
         withdraw(&mut rows, 3, 0, 0),
-    );
-    show_words(&rows);
-    show_port(b"0110_is_at_the_root", &rows, 2, 1610612736);
-    show_port(b"0111_goes_on_to_the_shorter", &rows, 2, 1879048192);
-    show_port(b"1_now_goes_nowhere", &rows, 2, 2147483648);
+    )?;
+    show_words(rt, &rows)?;
+    show_port(rt, b"0110_is_at_the_root", &rows, 2, 1610612736)?;
+    show_port(rt, b"0111_goes_on_to_the_shorter", &rows, 2, 1879048192)?;
+    show_port(rt, b"1_now_goes_nowhere", &rows, 2, 2147483648)
 }
 
-fn main() {
-    example_8();
-    refusals();
-    nested();
-    hidden();
+fn main(rt: HostRuntime) -> io::Result<()> {
+    example_8(&rt)?;
+    refusals(&rt)?;
+    nested(&rt)?;
+    hidden(&rt)
 }

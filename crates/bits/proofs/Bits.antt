@@ -2,16 +2,16 @@
 use mathlib.Core.Path.{◌≡◌, refl, sym, ap, ap₂, ◌∙◌, subst}
 use mathlib.Core.Logic.{◌⊎◌, inl, inr, ⊎_elim}
 use mathlib.Core.Bool.{Bool, true, false, beq, ◌&&◌, false≢true}
-use mathlib.Core.List.{List, [], ◌∷◌, ◌++◌}
+use mathlib.Core.List.{[], ◌∷◌, ◌++◌}
 use Prim.Native.Nat.{ℕ, zero, suc, ◌+◌, ◌*◌, ◌-◌, ◌/◌, ◌%◌, ◌^◌, ◌<◌, ◌≤◌}
 use native.Mathlib.Omega.{arith}
-use native.Mathlib.Nat.{div-div-eq-div-mul, pow-suc, pow-succ', sub-zero, suc-sub-suc, zero-add, suc-add, add-mul, mul_assoc, div-eq_of_lt, mod-eq_of_lt, div-one}
+use native.Mathlib.Nat.{div-div-eq-div-mul, pow-suc, pow-succ', sub-zero, suc-sub-suc, zero-add, suc-add, add-mul, mul_assoc, div-eq_of_lt}
 use lib.Dec.{eqb}
 use lib.ListN.{length, take, length-append}
 use lib.Pow.{shr-shr, pow_pos, pow-add, mod-pow-add, field, mod-mod-pow}
 use borrow.Author.Tests.{eq-eqb, ne_eqb, eqb-true, eqb-false}
 use Rattle.bits.specs.Bits.{Bits, bit, value, bits, prefix_bits, same, begins, bit_before}
-use Rattle.bits.specs.Prefix.{span, head, matches, Valid}
+use Rattle.bits.specs.Prefix.{span, head, Valid}
 use Rattle.bits.specs.Theorems.{ClearMeans, MatchesBegins}
 use Rattle.lists.proofs.Tests.{way, both}
 use Rattle.bits.proofs.Prefix.{first_valid}

@@ -1,17 +1,17 @@
 -- The order of prefixes by value, then by length, is strict and total; what begins later within a prefix is longer. Assumes nothing.
-use mathlib.Core.Path.{◌≡◌, refl, sym, ap, ◌∙◌}
+use mathlib.Core.Path.{◌≡◌, sym, ap, ◌∙◌}
 use mathlib.Core.Logic.{◌⊎◌, inl, inr, ⊎_elim}
-use mathlib.Core.Bool.{Bool, true, false, ◌&&◌, ◌||◌, false≢true}
-use Prim.Native.Nat.{ℕ, ◌+◌, ◌-◌, ◌*◌, ◌/◌, ◌%◌, ◌^◌, ◌<◌, ◌≤◌}
+use mathlib.Core.Bool.{true, false, ◌&&◌}
+use Prim.Native.Nat.{ℕ, ◌+◌, ◌-◌, ◌*◌, ◌%◌, ◌^◌, ◌<◌, ◌≤◌}
 use native.Mathlib.Omega.{arith}
 use native.Mathlib.Nat.{mul-mod_left, mul_assoc}
 use lib.Dec.{eqb, ltb}
 use lib.Pow.{pow-add}
-use borrow.Author.Tests.{eq-eqb, ne_eqb, eqb-true, lt-ltb, le-ltb, ltb-true, ltb-false}
-use Rattle.bits.specs.Prefix.{span, head, Valid, matches, first, last, precedes}
+use borrow.Author.Tests.{eq-eqb, eqb-true, lt-ltb, le-ltb, ltb-true, ltb-false}
+use Rattle.bits.specs.Prefix.{span, head, Valid, matches, precedes}
 use Rattle.bits.specs.Theorems.{PrecedesMeans, Ordered}
 use Rattle.lists.proofs.Tests.{way, both, either, test_no}
-use Rattle.bits.proofs.Prefix.{head_rest, span_pos, matches→within, within→matches}
+use Rattle.bits.proofs.Prefix.{head_rest}
 
 -- the order as a statement
 abbrev pub Precedes : ℕ → ℕ → ℕ → ℕ → Type 0

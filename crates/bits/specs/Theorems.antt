@@ -1,6 +1,6 @@
 -- States what this layer is there for: RULES, "Addresses and prefixes", "Lookup in an image". Proofs are in proofs/. Assumes nothing.
-use Rattle.std.specs.Prelude.{◌≡◌, Bool, true, false, ◌||◌, ◌⊎◌, ◌↔◌, ℕ, ◌+◌, ◌^◌, ◌<◌, ◌≤◌}
-use Rattle.bits.specs.Bits.{Bits, bits, prefix_bits, begins, bit_number}
+use Rattle.std.specs.Prelude.{◌≡◌, true, false, ◌||◌, ◌⊎◌, ◌↔◌, ℕ, ◌+◌, ◌^◌, ◌<◌, ◌≤◌}
+use Rattle.bits.specs.Bits.{bits, prefix_bits, begins, bit_number}
 use Rattle.bits.specs.Prefix.{Valid, clear, matches, first, last, within, middle, precedes}
 use Rattle.bits.specs.Bitmap.{ones_before, zeros_before, slots_with}
 

@@ -1,4 +1,6 @@
 // Counts made afresh: the runs of a table, each added to the count of its port.
+#![tactic(auto)]
+
 ghost use Rattle.std.specs.Prelude.{◌≡◌, ◌≤◌, length};
 ghost use Rattle.promise.specs.Over.{outcome, over};
 ghost use Rattle.lists.specs.Numbered.{list_of};

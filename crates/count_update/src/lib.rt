@@ -1,4 +1,6 @@
 // The updates that keep the counts in step: the first checks, the update of the rows alone, and then the counts that changed.
+#![tactic(auto)]
+
 ghost use Rattle.std.specs.Prelude.{◌≡◌};
 ghost use Rattle.promise.specs.Over.{outcome, over};
 ghost use Rattle.routes.specs.Routes.{route};

@@ -1,9 +1,9 @@
 -- Demands 1 and 2 of many lookups in one call. Assumes nothing.
 use mathlib.Core.Path.{◌≡◌, sym, ap, ◌∙◌}
 use mathlib.Core.Logic.{◌⊎◌, inl, inr}
-use mathlib.Core.Bool.{Bool, true, false, cond}
+use mathlib.Core.Bool.{true, false, cond}
 use mathlib.Core.List.{List}
-use Prim.Native.Nat.{ℕ, ◌≤◌, ◌<◌}
+use Prim.Native.Nat.{ℕ, ◌≤◌}
 use native.Mathlib.Omega.{arith}
 use lib.Dec.{eqb, leb}
 use lib.ListN.{length, get_or, drop}
@@ -12,7 +12,6 @@ use Rattle.lists.specs.Numbered.{list_of}
 use Rattle.lists.proofs.Tests.{way}
 use Rattle.refusals.specs.Refusals.{no_room, wrong_stride, refused, accepted, found}
 use Rattle.refusals.specs.Reply.{Reply, looked, replied}
-use Rattle.refusals.specs.declared.Answer.{Answer}
 use Rattle.refusals.specs.declared.found.Found.{Found}
 use Rattle.routes.specs.Bounds.{last_port}
 use Rattle.many_rules.specs.Many.{unfound, told, elements, some_unfound, lookup_many}

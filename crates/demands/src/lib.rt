@@ -1,1 +1,2 @@
 // The three demands, the starred examples and the five impostors: statements and their proofs, and no code.
+#![tactic(auto)]

@@ -1,4 +1,6 @@
 // Stores of 16-bit entries, ports or what names a block: one entry stored at a stretch of places.
+#![tactic(auto)]
+
 ghost use Rattle.std.specs.Prelude.{◌≡◌};
 ghost use Rattle.entries.specs.Entries.{filled};
 

@@ -1,4 +1,6 @@
 // The reader of route files, on any bytes: a first pass that checks and counts, and a second that writes.
+#![tactic(auto)]
+
 ghost use Rattle.std.specs.Prelude.{◌≡◌};
 ghost use Rattle.promise.specs.Over.{over, outcome};
 ghost use Rattle.file_rules.specs.File.{file_route};

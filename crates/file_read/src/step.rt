@@ -13,7 +13,7 @@ use refusals::{Answer, LONG_PREFIX, NOT_ABOVE, TOO_MANY_ROUTES, WRONG_PORT, WRON
 use routes::{MOST_ROUTES, Route, is_port};
 
 // Where the reader stands: the offset of the next route, its number from 0, and the prefix of the route before it.
-#[derive(Drop)]
+#[derive(Clone, Copy)]
 pub struct Cursor {
     pub at: usize,
     pub count: usize,
@@ -21,7 +21,7 @@ pub struct Cursor {
 }
 
 // What a step of the reader answers: the cursor after the route, or the refusal with its place.
-#[derive(Drop)]
+#[derive(Clone, Copy)]
 pub enum Step {
     Took(Cursor),
     Refused(Answer),

@@ -1,4 +1,6 @@
 // The route file: definitions and laws over the width, and what the reader's and the writer's code share.
+#![tactic(auto)]
+
 ghost use Rattle.file_rules.specs.File.{RouteBytes};
 
 use octets::prefix_size;

@@ -1,4 +1,6 @@
 // The writer of route files, from any list: the size first, then the head and the routes.
+#![tactic(auto)]
+
 ghost use Rattle.std.specs.Prelude.{◌≡◌, ◌+◌, ◌≤◌, length};
 ghost use Rattle.promise.specs.Over.{over, outcome};
 ghost use Rattle.routes.specs.Routes.{route_at, route_count};

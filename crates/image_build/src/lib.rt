@@ -1,4 +1,6 @@
 // Building the image of a route list into lent memory, which is all the memory that it uses.
+#![tactic(auto)]
+
 ghost use Rattle.std.specs.Prelude.{◌≡◌};
 ghost use Rattle.image_build.specs.Build.{left, refused_build, done_build, build_image};
 
@@ -12,7 +14,7 @@ use routes::{ROUTE_SIZE, check_list};
 mod fill;
 
 // What a build answers: the refusal's number and place, both 0 where it is done, and the nodes and ports written.
-#[derive(Drop)]
+#[derive(Clone, Copy)]
 pub struct Built {
     pub number: u32,
     pub place: u32,

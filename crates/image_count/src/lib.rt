@@ -1,4 +1,6 @@
 // How many nodes the image of a list has, by one pass over the list and with no memory.
+#![tactic(auto)]
+
 ghost use Rattle.std.specs.Prelude.{◌≡◌, ◌-◌, ◌/◌, ◌<◌, ◌≤◌};
 ghost use Rattle.routes.specs.Bounds.{most_routes};
 ghost use Rattle.routes.specs.Routes.{route_at};

@@ -1,4 +1,6 @@
 // The image's lookup, on whatever words and ports are lent: at most 32 / stride nodes are read.
+#![tactic(auto)]
+
 ghost use Rattle.std.specs.Prelude.{◌≡◌, ◌+◌, ◌-◌, ◌*◌, ◌%◌, ◌^◌, ◌<◌, ◌≤◌, ◌==◌};
 ghost use Rattle.bits.specs.Bitmap.{slot_bit, ones_before};
 ghost use Rattle.image_rules.specs.Lookup.{leaf_at, lookup_words};

@@ -1,4 +1,6 @@
 // A node in the words lent: RULES, "Nodes". No other code knows where the words of a node are.
+#![tactic(auto)]
+
 ghost use Rattle.std.specs.Prelude.{◌≡◌, ◌^◌, ◌≤◌, ◌<◌};
 ghost use Rattle.image_rules.specs.Node.{node_count, node_start, bitmap_of, next_of, store_node};
 ghost use Rattle.image_nodes.specs.Words.{node_at, words_of_node};
@@ -10,7 +12,7 @@ use image_numbers::{Distance, Node, wide};
 pub const NODE_SIZE: usize = 2;
 
 // A node's words. A builder keeps a node that is still to be built in the same two.
-#[derive(Drop)]
+#[derive(Clone, Copy)]
 pub struct NodeWords {
     pub bitmap: u32,
     pub offset: u32,

@@ -1,18 +1,20 @@
 // The numbers of an image, apart from any words lent: the three kinds that the rules keep apart, RULES, "Nodes", and strides with their slots.
+#![tactic(auto)]
+
 ghost use Rattle.std.specs.Prelude.{◌≡◌, ◌+◌, ◌-◌, ◌%◌, ◌^◌, ◌<◌, ◌≤◌};
 ghost use Rattle.image_rules.specs.Lookup.{is_stride};
 ghost use Rattle.image_numbers.specs.Slots.{slots_of};
 
 // A node's number; nodes are numbered from 1.
-#[derive(Drop)]
+#[derive(Clone, Copy)]
 pub struct Node(pub usize);
 
 // From one node number to another.
-#[derive(Drop)]
+#[derive(Clone, Copy)]
 pub struct Distance(pub usize);
 
 // A leaf's number: the place of its port.
-#[derive(Drop)]
+#[derive(Clone, Copy)]
 pub struct Leaf(pub usize);
 
 impl Node {

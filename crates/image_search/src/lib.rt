@@ -1,5 +1,7 @@
 // The stretches of a node's slots: the routes that begin with the slot's bits, found within the stretch of its node. The search for one
 // resumes where that for the slot before ended. Every function answers for any list, any stretch and any depth.
+#![tactic(auto)]
+
 ghost use Rattle.std.specs.Prelude.{◌≡◌, cond, ◌-◌, ◌≤◌};
 ghost use Rattle.bits.specs.Prefix.{matches};
 ghost use Rattle.routes.specs.Routes.{route_at};
@@ -11,7 +13,7 @@ use prefix::Prefix;
 use routes::{Route, route_at};
 
 // What a search has found: the route at which it ended, and the port of the last match that it passed.
-#[derive(Drop)]
+#[derive(Clone, Copy)]
 struct Sought {
     route: usize,
     port: u32,
@@ -19,7 +21,7 @@ struct Sought {
 
 // Where the search for a slot's stretch resumes: from `short` on a route may match the slot, the routes from `route` on may lie in it,
 // and the slots before `clear` are leaves with the node's port.
-#[derive(Drop)]
+#[derive(Clone, Copy)]
 pub struct Search {
     pub short: usize,
     pub route: usize,

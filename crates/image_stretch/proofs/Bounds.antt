@@ -8,9 +8,9 @@ use lib.Dec.{ltb}
 use Rattle.routes.specs.Scan.{route_matches}
 use Rattle.routes.specs.declared.Route.{Route}
 use Rattle.image_stretch.specs.declared.Stretch.{Stretch}
-use Rattle.image_stretch.specs.Stretches.{past, half_word, carried, last_from, stands_before, under, from_of, to_of, slot_stretch, leaf_port}
+use Rattle.image_stretch.specs.Stretches.{half_word, carried, last_from, stands_before, under, from_of, slot_stretch, leaf_port}
 use Rattle.image_stretch.specs.Needs.{Fits}
-use Rattle.image_stretch.proofs.FirstAndLast.{Passed, passed}
+use Rattle.image_stretch.proofs.FirstAndLast.{passed}
 
 carried_lt : (r : Route) → carried r < half_word
 carried_lt r = mod-lt r.port (omega arith)

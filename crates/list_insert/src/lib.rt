@@ -1,5 +1,7 @@
 // A route put into its place among routes of a list that ascend, which leave one place free. Only the routes between that place and the free
 // one move, by one.
+#![tactic(auto)]
+
 ghost use Rattle.std.specs.Prelude.{◌≡◌, ◌+◌, ◌-◌, ◌*◌, ◌<◌, ◌≤◌, length};
 ghost use Rattle.bits.specs.Prefix.{precedes};
 ghost use Rattle.routes.specs.Routes.{route_at, store_route};

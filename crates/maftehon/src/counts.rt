@@ -11,20 +11,13 @@ ghost use Rattle.maftehon.specs.Reply.{replied_place, booked, replied_book};
 
 use refusals::reply::{counted, placed};
 
-#[unsafe(no_mangle)]
-pub extern "C" fn mft_counts_make(
-    rows: &[u32],
-    n: u32,
-    counts: &mut [u64],
-    answer: &mut [u32; 1],
-) -> u32
+pub fn mft_counts_make(rows: &[u32], n: u32, counts: &mut [u64], answer: &mut [u32; 1]) -> u32
     ensures { outcome (reply result answer.new) counts.new ≡ replied_place (make_counts five_words 32 rows.now n counts.old) }
 {
     placed(count_make::make(rows, n, counts), answer)
 }
 
-#[unsafe(no_mangle)]
-pub extern "C" fn mft_counted_announce(
+pub fn mft_counted_announce(
     rows: &mut [u32],
     n: u32,
     value: u32,
@@ -41,8 +34,7 @@ pub extern "C" fn mft_counted_announce(
     )
 }
 
-#[unsafe(no_mangle)]
-pub extern "C" fn mft_counted_withdraw(
+pub fn mft_counted_withdraw(
     rows: &mut [u32],
     n: u32,
     value: u32,
@@ -58,8 +50,7 @@ pub extern "C" fn mft_counted_withdraw(
     )
 }
 
-#[unsafe(no_mangle)]
-pub extern "C" fn mft_counted_message(
+pub fn mft_counted_message(
     message: &[u8],
     port: u32,
     rows: &mut [u32],

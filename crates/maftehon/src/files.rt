@@ -8,15 +8,13 @@ use file_read::read_file;
 use file_write::write_file;
 use refusals::reply::counted;
 
-#[unsafe(no_mangle)]
-pub extern "C" fn mft_file_read(file: &[u8], list: &mut [u32], answer: &mut [u32; 2]) -> u32
+pub fn mft_file_read(file: &[u8], list: &mut [u32], answer: &mut [u32; 2]) -> u32
     ensures { outcome (reply result answer.new) list.new ≡ replied (read_file 32 file.now list.old) }
 {
     counted(read_file(file, list), answer)
 }
 
-#[unsafe(no_mangle)]
-pub extern "C" fn mft_file_write(list: &[u32], file: &mut [u8], answer: &mut [u32; 2]) -> u32
+pub fn mft_file_write(list: &[u32], file: &mut [u8], answer: &mut [u32; 2]) -> u32
     ensures { outcome (reply result answer.new) file.new ≡ replied (write_file 32 list.now file.old) }
 {
     counted(write_file(list, file), answer)

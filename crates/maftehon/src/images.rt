@@ -10,8 +10,7 @@ ghost use Rattle.refusals.specs.Reply.{reply, looked, replied};
 use crate::replies::built;
 use refusals::reply::{counted, looked};
 
-#[unsafe(no_mangle)]
-pub extern "C" fn mft_image_build(
+pub fn mft_image_build(
     stride: u32,
     list: &[u32],
     nodes: &mut [u32],
@@ -23,8 +22,7 @@ pub extern "C" fn mft_image_build(
     built(image_build::build(stride, list, nodes, ports), answer)
 }
 
-#[unsafe(no_mangle)]
-pub extern "C" fn mft_image_lookup(
+pub fn mft_image_lookup(
     stride: u32,
     nodes: &[u32],
     ports: &[u16],
@@ -36,44 +34,25 @@ pub extern "C" fn mft_image_lookup(
     looked(image_lookup::lookup(stride, nodes, ports, address), answer)
 }
 
-#[unsafe(no_mangle)]
-pub extern "C" fn mft_image_lookup_1(
-    nodes: &[u32],
-    ports: &[u16],
-    address: u32,
-    answer: &mut [u32; 3],
-) -> u32
+pub fn mft_image_lookup_1(nodes: &[u32], ports: &[u16], address: u32, answer: &mut [u32; 3]) -> u32
     ensures { reply result answer.new ≡ looked (lookup_words 32 1 nodes.now ports.now address) }
 {
     looked(image_lookup::lookup_1(nodes, ports, address), answer)
 }
 
-#[unsafe(no_mangle)]
-pub extern "C" fn mft_image_lookup_2(
-    nodes: &[u32],
-    ports: &[u16],
-    address: u32,
-    answer: &mut [u32; 3],
-) -> u32
+pub fn mft_image_lookup_2(nodes: &[u32], ports: &[u16], address: u32, answer: &mut [u32; 3]) -> u32
     ensures { reply result answer.new ≡ looked (lookup_words 32 2 nodes.now ports.now address) }
 {
     looked(image_lookup::lookup_2(nodes, ports, address), answer)
 }
 
-#[unsafe(no_mangle)]
-pub extern "C" fn mft_image_lookup_4(
-    nodes: &[u32],
-    ports: &[u16],
-    address: u32,
-    answer: &mut [u32; 3],
-) -> u32
+pub fn mft_image_lookup_4(nodes: &[u32], ports: &[u16], address: u32, answer: &mut [u32; 3]) -> u32
     ensures { reply result answer.new ≡ looked (lookup_words 32 4 nodes.now ports.now address) }
 {
     looked(image_lookup::lookup_4(nodes, ports, address), answer)
 }
 
-#[unsafe(no_mangle)]
-pub extern "C" fn mft_image_lookup_many(
+pub fn mft_image_lookup_many(
     stride: u32,
     nodes: &[u32],
     ports: &[u16],

@@ -7,8 +7,7 @@ ghost use Rattle.refusals.specs.Reply.{reply, replied};
 use message_write::write_message;
 use refusals::reply::counted;
 
-#[unsafe(no_mangle)]
-pub extern "C" fn mft_message_write(list: &[u32], message: &mut [u8], answer: &mut [u32; 2]) -> u32
+pub fn mft_message_write(list: &[u32], message: &mut [u8], answer: &mut [u32; 2]) -> u32
     ensures { outcome (reply result answer.new) message.new ≡ replied (write_message 32 list.now message.old) }
 {
     counted(write_message(list, message), answer)

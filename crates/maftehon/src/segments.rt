@@ -12,8 +12,7 @@ use crate::replies::{blocked, located};
 use refusals::reply::{counted, looked};
 use segment_entries::part_of;
 
-#[unsafe(no_mangle)]
-pub extern "C" fn mft_segments_build(
+pub fn mft_segments_build(
     list: &[u32],
     first: &mut [u16],
     packed: &mut [u16],
@@ -29,8 +28,7 @@ pub extern "C" fn mft_segments_build(
     )
 }
 
-#[unsafe(no_mangle)]
-pub extern "C" fn mft_segments_lookup(
+pub fn mft_segments_lookup(
     first: &[u16],
     packed: &[u16],
     plain: &[u16],
@@ -46,8 +44,7 @@ pub extern "C" fn mft_segments_lookup(
     )
 }
 
-#[unsafe(no_mangle)]
-pub extern "C" fn mft_segments_lookup_many(
+pub fn mft_segments_lookup_many(
     first: &[u16],
     packed: &[u16],
     plain: &[u16],
@@ -64,13 +61,7 @@ pub extern "C" fn mft_segments_lookup_many(
     )
 }
 
-#[unsafe(no_mangle)]
-pub extern "C" fn mft_segments_entries(
-    packed: &[u16],
-    plain: &[u16],
-    entry: u32,
-    answer: &mut [u32; 3],
-) -> u32
+pub fn mft_segments_entries(packed: &[u16], plain: &[u16], entry: u32, answer: &mut [u32; 3]) -> u32
     ensures { reply result answer.new ≡ located (part_of (length packed.now) (length plain.now) entry) }
 {
     located(part_of(packed.len(), plain.len(), entry), answer)

@@ -13,46 +13,31 @@ use refusals::reply::{counted, looked, placed};
 use runs_write::table_runs;
 use table_save::save;
 
-#[unsafe(no_mangle)]
-pub extern "C" fn mft_table_check(rows: &[u32], n: u32, answer: &mut [u32; 1]) -> u32
+pub fn mft_table_check(rows: &[u32], n: u32, answer: &mut [u32; 1]) -> u32
     ensures { reply result answer.new ≡ placed (table_check 32 (capacity rows.now) (row_at rows.now) n) }
 {
     placed(table_lookup::check(rows, n), answer)
 }
 
-#[unsafe(no_mangle)]
-pub extern "C" fn mft_table_lookup(rows: &[u32], n: u32, address: u32, answer: &mut [u32; 3]) -> u32
+pub fn mft_table_lookup(rows: &[u32], n: u32, address: u32, answer: &mut [u32; 3]) -> u32
     ensures { reply result answer.new ≡ looked (lookup_in 32 (capacity rows.now) (row_at rows.now) n address) }
 {
     looked(table_lookup::lookup(rows, n, address), answer)
 }
 
-#[unsafe(no_mangle)]
-pub extern "C" fn mft_table_build(list: &[u32], rows: &mut [u32], answer: &mut [u32; 2]) -> u32
+pub fn mft_table_build(list: &[u32], rows: &mut [u32], answer: &mut [u32; 2]) -> u32
     ensures { outcome (reply result answer.new) rows.new ≡ replied (build_into five_words 32 list.now rows.old) }
 {
     counted(table_update::build(list, rows), answer)
 }
 
-#[unsafe(no_mangle)]
-pub extern "C" fn mft_table_save(
-    rows: &[u32],
-    n: u32,
-    list: &mut [u32],
-    answer: &mut [u32; 2],
-) -> u32
+pub fn mft_table_save(rows: &[u32], n: u32, list: &mut [u32], answer: &mut [u32; 2]) -> u32
     ensures { outcome (reply result answer.new) list.new ≡ replied (save_into 32 (capacity rows.now) (row_at rows.now) n list.old) }
 {
     counted(save(rows, n, list), answer)
 }
 
-#[unsafe(no_mangle)]
-pub extern "C" fn mft_table_runs(
-    rows: &[u32],
-    n: u32,
-    runs: &mut [u32],
-    answer: &mut [u32; 2],
-) -> u32
+pub fn mft_table_runs(rows: &[u32], n: u32, runs: &mut [u32], answer: &mut [u32; 2]) -> u32
     ensures { outcome (reply result answer.new) runs.new ≡ replied (table_runs 32 (capacity rows.now) (row_at rows.now) n runs.old) }
 {
     counted(table_runs(rows, n, runs), answer)

@@ -1,9 +1,9 @@
 -- Laws of many lookups in one call: one element more, all of them, and what they leave. Assumes nothing.
-use mathlib.Core.Path.{◌≡◌, refl, sym, ap, ◌∙◌}
+use mathlib.Core.Path.{◌≡◌, sym, ap, ◌∙◌}
 use mathlib.Core.Logic.{◌⊎◌, inl, inr}
 use mathlib.Core.Bool.{Bool, true, false, cond, ◌||◌}
 use mathlib.Core.List.{List, [], ◌∷◌, ◌++◌}
-use Prim.Native.Nat.{ℕ, zero, suc, ◌+◌, ◌≤◌, ◌<◌}
+use Prim.Native.Nat.{ℕ, ◌+◌, ◌≤◌, ◌<◌}
 use native.Mathlib.Omega.{arith}
 use native.Mathlib.Nat.{zero-add}
 use native.Mathlib.Numerals.{add-one}
@@ -14,14 +14,13 @@ use borrow.Author.Tests.{le-leb, lt-leb, leb-true, eq-eqb, eqb-true}
 use Rattle.promise.specs.Over.{Outcome, outcome, over}
 use Rattle.promise.proofs.Over.{over_push, length_over}
 use Rattle.lists.specs.Below.{some_below}
-use Rattle.lists.specs.Numbered.{list_of}
 use Rattle.lists.proofs.Below.{some_below_lem, passing}
 use Rattle.lists.proofs.Numbered.{list_of_snoc, length_list_of, get_d_list_of, list_of_same}
 use Rattle.lists.proofs.Tests.{way, test_no}
 use Rattle.refusals.specs.declared.Answer.{Answer}
 use Rattle.refusals.specs.declared.found.Found.{Found}
 use Rattle.many_rules.specs.Many.{unfound, told, element_at, elements, some_unfound, lookup_many}
-use Rattle.many_rules.specs.Theorems.{Unfound, EachLooked, ManyIsEach, ManyFound, ShortIsRefused}
+use Rattle.many_rules.specs.Theorems.{Unfound, ManyIsEach, ManyFound, ShortIsRefused}
 
 module _ (look : ℕ → Found) (addresses : List ℕ) where
   -- one element more

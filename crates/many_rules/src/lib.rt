@@ -1,4 +1,6 @@
 // Many lookups in one call, over any lookup: definitions and laws, and the little code that the two calls share.
+#![tactic(auto)]
+
 ghost use Rattle.std.specs.Prelude.{◌≡◌, ◌%◌, ◌^◌};
 ghost use Rattle.many_rules.specs.Many.{element, told};
 

@@ -1,5 +1,7 @@
 // Applies an UPDATE message to a table, whole or not at all. The prefixes of a message are at most 4,073, so a table of their own in local
 // memory tells which of them were met before: it counts the final set before a row is written, and no route is copied.
+#![tactic(auto)]
+
 ghost use Rattle.std.specs.Prelude.{◌≡◌, ◌+◌, ◌≤◌, ◌<◌, length};
 ghost use Rattle.promise.specs.Over.{outcome};
 ghost use Rattle.table_rows.specs.Words.{five_words};
@@ -23,7 +25,7 @@ use table_rows::capacity_of;
 const SEEN_SIZE: usize = 20480;
 
 // Of the prefixes met: how many are different, and how many of those the table holds.
-#[derive(Drop)]
+#[derive(Clone, Copy)]
 pub struct Tally {
     pub met: u32,
     pub hits: u32,

@@ -1,5 +1,7 @@
 // The check of an UPDATE message, on any bytes: the head, then every prefix of both parts. Whoever applies a message that it accepts
 // may take the parts where it says that they lie.
+#![tactic(auto)]
+
 ghost use Rattle.std.specs.Prelude.{◌≡◌, ◌+◌, ◌≤◌, length};
 ghost use Rattle.message_rules.specs.Message.{least_size, most_size, unmarked};
 ghost use Rattle.message_rules.specs.Check.{wrong_length, inner_check, head_check, part_check};
@@ -13,7 +15,7 @@ use refusals::{Answer, BAD_MESSAGE, LONG_PREFIX};
 
 // What the check answers, and where the parts of an accepted message lie: the withdrawn one from byte 21 to an end, the announced one
 // from an offset to the end of the message.
-#[derive(Drop)]
+#[derive(Clone, Copy)]
 pub struct Checked {
     pub answer: Answer,
     pub end: usize,

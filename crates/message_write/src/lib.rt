@@ -1,4 +1,6 @@
 // The writer of the message that withdraws a list: the size first, then the head, the prefixes, and that there are no attributes.
+#![tactic(auto)]
+
 ghost use Rattle.std.specs.Prelude.{◌≡◌, ◌≤◌, length, replicate};
 ghost use Rattle.promise.specs.Over.{over, outcome};
 ghost use Rattle.routes.specs.Routes.{route_at, route_count, ValidList};

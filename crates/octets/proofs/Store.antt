@@ -5,7 +5,6 @@ use Prim.Native.Nat.{ℕ, zero, suc, ◌+◌, ◌-◌, ◌*◌, ◌/◌, ◌%◌
 use native.Mathlib.Omega.{arith}
 use native.Mathlib.Nat.{min-eq_left}
 use native.Mathlib.Numerals.{add-one}
-use lib.Dec.{leb}
 use lib.ListN.{length, get_or, set, take, drop, length-append, length-set}
 use lib.Seq.{paste, paste-zero, paste-suc, length-paste, take-paste, drop-paste, take_all, take_at, drop-append-add, drop-drop}
 use borrow.Author.Tests.{le-leb, lt-leb}

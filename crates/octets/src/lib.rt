@@ -1,4 +1,6 @@
 // Numbers as big-endian bytes, and a prefix as one length byte and the fewest bytes that hold it, read and written at an offset.
+#![tactic(auto)]
+
 ghost use Rattle.std.specs.Prelude.{◌≡◌, ◌+◌, ◌-◌, ◌^◌, ◌≤◌, ◌<◌, min, leb, length};
 ghost use Rattle.bits.specs.Prefix.{first};
 ghost use Rattle.octets.specs.Bytes.{digits};
@@ -129,7 +131,7 @@ pub fn prefix_from(bytes: &[u8], from: usize, len: u32) -> Prefix
 }
 
 // What stands at an offset of some bytes: a whole prefix, or a length byte above 32, or a prefix that runs past the end.
-#[derive(Drop)]
+#[derive(Clone, Copy)]
 pub enum Taken {
     Whole(Prefix),
     Long,

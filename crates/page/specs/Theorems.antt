@@ -1,13 +1,11 @@
 -- States what this layer is there for: RULES, "Program runs". Proofs are in proofs/. Assumes nothing.
-use Rattle.std.specs.Prelude.{◌≡◌, List, [], ◌∷◌, ◌++◌, ℕ, ◌*◌, ◌+◌, ◌-◌, ◌^◌, ◌≤◌, ◌<◌, length}
+use Rattle.std.specs.Prelude.{◌≡◌, List, [], ◌∷◌, ℕ, ◌*◌, ◌+◌, ◌^◌, ◌≤◌, ◌<◌, length}
 use Rattle.promise.specs.Over.{outcome}
 use Rattle.refusals.specs.Refusals.{no_room, refused}
 use Rattle.file_rules.specs.File.{file_route}
 use Rattle.file_rules.specs.Check.{file_check}
 use Rattle.runs_rules.specs.Runs.{Run, run, Lists}
-use Rattle.runs_rules.specs.Listing.{listed}
 use Rattle.routes.specs.Scan.{scan_of}
-use Rattle.page.specs.Text.{address}
 use Rattle.page.specs.Page.{line_of, runs_text, refused_text, most_bytes, most_routes_shown, page_text, page_of}
 
 -- "More than 1,797 bytes: `refused 9 0`", whatever the bytes are

@@ -1,4 +1,6 @@
 // The page that the program `runs` prints for a route file, written into lent bytes.
+#![tactic(auto)]
+
 ghost use Rattle.std.specs.Prelude.{◌≡◌, ◌++◌, ◌+◌, ◌*◌, ◌≤◌, length};
 ghost use Rattle.promise.specs.Over.{outcome};
 ghost use Rattle.refusals.specs.Refusals.{refused};

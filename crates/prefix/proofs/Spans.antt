@@ -1,10 +1,10 @@
 -- A shifted 1 is a span; the ends of any prefix as the code computes them. Assumes nothing.
-use mathlib.Core.Path.{◌≡◌, sym, ap, ◌∙◌}
-use Prim.Native.Nat.{ℕ, ◌+◌, ◌-◌, ◌*◌, ◌/◌, ◌%◌, ◌^◌, ◌<◌, ◌≤◌}
+use mathlib.Core.Path.{◌≡◌, ◌∙◌}
+use Prim.Native.Nat.{ℕ, ◌-◌, ◌*◌, ◌%◌, ◌^◌, ◌<◌}
 use native.Mathlib.Nat.{one-mul}
 use native.Mathlib.Omega.{arith}
 use lib.Pow.{pow_pos, pow_mono, shl_exact}
-use Rattle.bits.specs.Prefix.{span, head, first}
+use Rattle.bits.specs.Prefix.{span, first}
 use Rattle.bits.proofs.Prefix.{head_rest}
 use Rattle.prefix.specs.Prefixes.{Spanned}
 

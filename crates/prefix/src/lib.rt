@@ -1,11 +1,13 @@
 // Prefixes of 32-bit addresses, by value: the whole space, ends, halves, order, and the one match test.
 // Every method answers for every value and length; RULES, "Readings", says what where there is no such prefix.
+#![tactic(auto)]
+
 ghost use Rattle.std.specs.Prelude.{◌≡◌, ◌-◌, ◌^◌, ◌<◌, ◌≤◌};
 ghost use Rattle.bits.specs.Bits.{bit_before};
 ghost use Rattle.bits.specs.Prefix.{span, clear, matches, first, last, precedes, same_prefix, ahead_of};
 ghost use Rattle.prefix.specs.Prefixes.{Spanned, prefix, left_half, right_half};
 
-#[derive(Drop)]
+#[derive(Clone, Copy)]
 pub struct Prefix {
     pub value: u32,
     pub len: u32,

@@ -1,5 +1,5 @@
 -- Defines what a writer leaves: RULES, "Calls". Assumes nothing.
-use Rattle.std.specs.Prelude.{List, [], ◌∷◌, ◌++◌, ℕ, ◌+◌, length, drop, set}
+use Rattle.std.specs.Prelude.{List, ◌++◌, ℕ, ◌+◌, length, drop, set}
 
 -- the output, and then what was lent past it
 abbrev pub over : {A : Type 0} → List A → List A → List A

@@ -1,4 +1,6 @@
 // What a call answers, and the published numbers of the refusals.
+#![tactic(auto)]
+
 ghost use Rattle.std.specs.Prelude.{◌≡◌};
 ghost use Rattle.refusals.specs.Refusals.{refused, keeping_at, accepted};
 
@@ -34,7 +36,7 @@ pub const WRONG_STRIDE: u32 = 12;
 pub const BAD_MESSAGE: u32 = 14;
 
 // What a call answers: the refusal's number and place, both 0 where it is done, and its one other result.
-#[derive(Drop)]
+#[derive(Clone, Copy)]
 pub struct Answer {
     pub number: u32,
     pub place: u32,

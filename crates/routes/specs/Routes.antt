@@ -2,7 +2,7 @@
 -- Routes are numbered, so that no list is taken apart: R i is route i. Assumes nothing.
 use Rattle.std.specs.Prelude.{◌≡◌, true, cond, List, [], ◌∷◌, ℕ, ◌+◌, ◌*◌, ◌/◌, ◌≤◌, ◌<◌, ◌%◌, ◌^◌, ltb, length, get_or}
 use Rattle.promise.specs.Over.{store_three}
-use Rattle.bits.specs.Bits.{prefix_bits, bits}
+use Rattle.bits.specs.Bits.{prefix_bits}
 use Rattle.bits.specs.Prefix.{Valid, precedes}
 use Rattle.trie.specs.Routes.{Route as BitRoute}
 use Rattle.routes.specs.Bounds.{most_routes, last_port}

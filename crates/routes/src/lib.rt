@@ -1,4 +1,6 @@
 // The route list: its refusals, its check and its plain scan. Three words a route: value, length, port.
+#![tactic(auto)]
+
 ghost use Rattle.std.specs.Prelude.{◌≡◌, cond, get_or};
 ghost use Rattle.prefix.specs.Prefixes.{prefix};
 ghost use Rattle.refusals.specs.Refusals.{refused, accepted};
@@ -12,7 +14,7 @@ use refusals::{
 };
 
 // A route: a prefix and a port.
-#[derive(Drop)]
+#[derive(Clone, Copy)]
 pub struct Route {
     pub value: u32,
     pub len: u32,

@@ -9,7 +9,7 @@ use native.Mathlib.Omega.{arith}
 use lib.Dec.{eqb, leb, ltb}
 use lib.ListN.{length}
 use borrow.Author.Tests.{eq-eqb, ne_eqb, eqb-true, eqb-false, lt-ltb, le-ltb, leb-true, leb-false, ltb-true, ltb-false}
-use Rattle.bits.specs.Prefix.{matches, first, last}
+use Rattle.bits.specs.Prefix.{first, last}
 use Rattle.lists.proofs.Tests.{way, neither}
 use Rattle.bits.proofs.Prefix.{matches_same}
 use Rattle.trie.specs.Scan.{plain_scan}

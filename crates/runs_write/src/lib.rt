@@ -1,4 +1,6 @@
 // The run listing written into lent memory: of a list once it is checked, and of a table by the list that it is saved as.
+#![tactic(auto)]
+
 ghost use Rattle.std.specs.Prelude.{◌≡◌};
 ghost use Rattle.promise.specs.Over.{outcome};
 ghost use Rattle.table_rows.specs.Words.{capacity, row_at};

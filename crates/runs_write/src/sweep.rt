@@ -18,7 +18,7 @@ const STACK_SIZE: usize = 34;
 
 // The run that is open: its first address, the address after the last one it has, its port, and how many runs ended before
 // it. Before it has any address, both addresses are 0.
-#[derive(Drop)]
+#[derive(Clone, Copy)]
 struct OpenRun {
     first: u32,
     next: u32,

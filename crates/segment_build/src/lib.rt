@@ -1,5 +1,7 @@
 // The segment tables built from a list into four lent stores. The runs of the list tell the port of every address; a pass over its routes
 // meets the segments and the last blocks in order.
+#![tactic(auto)]
+
 ghost use Rattle.std.specs.Prelude.{◌≡◌, ◌&&◌, ◌*◌, ◌≤◌, leb, length};
 ghost use Rattle.routes.specs.Routes.{route_at};
 ghost use Rattle.segment_rules.specs.Packed.{block_size, packed_size};

@@ -12,7 +12,7 @@ use segment_rules::{BLOCK_SIZE, POINTER};
 
 // What a pass over the segments has come to: those before `next` are done, and so many of them are packed and plain; so many last blocks
 // lie in them; and the run from which those of later addresses are sought.
-#[derive(Drop)]
+#[derive(Clone, Copy)]
 pub(crate) struct Walk {
     pub next: usize,
     pub packed: usize,
@@ -33,7 +33,7 @@ impl Walk {
 }
 
 // A segment that is met: its entries, whether they are packed, and the pass after it.
-#[derive(Drop)]
+#[derive(Clone, Copy)]
 pub(crate) struct Segment {
     pub entries: [u16; 256],
     pub packed: bool,

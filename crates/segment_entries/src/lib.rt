@@ -1,4 +1,6 @@
 // The debug page's call: where the entries of a segment stand, and those entries, on whatever stores are lent.
+#![tactic(auto)]
+
 ghost use Rattle.segment_entries.specs.Handed.{Placed, Handed};
 
 use segment_rules::{BLOCK_SIZE, CODEWORDS, MOST_KEPT, PACKED_SIZE, PLAIN_POINTER, POINTER, Part};

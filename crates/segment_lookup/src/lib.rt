@@ -1,4 +1,6 @@
 // The lookup in segment tables, on whatever stores are lent: four words are read at most.
+#![tactic(auto)]
+
 ghost use Rattle.std.specs.Prelude.{◌≡◌, ◌+◌, ◌*◌, ◌%◌, ◌^◌, ◌≤◌, ◌<◌, length};
 ghost use Rattle.segment_rules.specs.Packed.{packed_size};
 ghost use Rattle.segment_rules.specs.Lookup.{third, port_read, last_read, entry_read, rank, rank_read, packed_read, plain_read, first_read, lookup_in};

@@ -1,5 +1,5 @@
 -- For the proofs: what the inner functions of packing ask of each other and leave. Assumes nothing.
-use Rattle.std.specs.Prelude.{◌≡◌, List, ◌++◌, ℕ, ◌+◌, ◌-◌, ◌≤◌, replicate}
+use Rattle.std.specs.Prelude.{◌≡◌, List, ◌++◌, ℕ, ◌-◌, ◌≤◌, replicate}
 use Rattle.lists.specs.Numbered.{list_of}
 use Rattle.segment_rules.specs.Packed.{codewords, most_kept, ones_below, codeword, kept}
 use Rattle.segment_pack.specs.declared.Codes.{Codes}

@@ -1,5 +1,7 @@
 // A segment stored in its block. Plain, that is its entries. Packed, it is its codewords with their bases, by value while the block is built
 // and ranked, and the entries that have a one, each at its rank.
+#![tactic(auto)]
+
 ghost use Rattle.std.specs.Prelude.{◌≡◌, cond, ◌+◌, ◌*◌, ◌^◌, ◌≤◌, ◌<◌, length};
 ghost use Rattle.promise.specs.Over.{over};
 ghost use Rattle.lists.specs.Numbered.{list_of};
@@ -11,7 +13,7 @@ use entries::fill;
 use segment_rules::{BLOCK_SIZE, CODEWORDS, MOST_KEPT, PACKED_SIZE, ones_through};
 
 // The eight bits of each codeword, and the ones before them.
-#[derive(Drop)]
+#[derive(Clone, Copy)]
 struct Codes {
     bits: [u16; 32],
     bases: [u16; 32],

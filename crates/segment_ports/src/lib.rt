@@ -1,4 +1,6 @@
 // The ports of neighbouring blocks of addresses, by the runs of a list: each run fills all entries whose blocks begin in it.
+#![tactic(auto)]
+
 ghost use Rattle.std.specs.Prelude.{◌≡◌, ◌*◌, ◌^◌, ◌≤◌, ◌<◌, length};
 ghost use Rattle.promise.specs.Over.{outcome};
 ghost use Rattle.segment_ports.specs.RunSearch.{run_end, run_port, run_of, past_of};

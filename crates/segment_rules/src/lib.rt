@@ -1,10 +1,12 @@
 // The segment tables of a list, the packed form of a segment, and the lookup on any stores: definitions and laws, and the little code that
 // lookup and builder share.
+#![tactic(auto)]
+
 ghost use Rattle.std.specs.Prelude.{◌≡◌, ◌+◌, ◌%◌, ◌≤◌};
 ghost use Rattle.bits.specs.Bitmap.{ones_before};
 
 // Where the entries of a segment stand: in the plain store or in the packed one, from which word on, and how many.
-#[derive(Drop)]
+#[derive(Clone, Copy)]
 pub struct Part {
     pub plain: bool,
     pub from: usize,
@@ -13,7 +15,7 @@ pub struct Part {
 
 // What a build answers: the refusal's number and place, both 0 where it is done, and how many packed segments, plain segments and last
 // blocks there are.
-#[derive(Drop)]
+#[derive(Clone, Copy)]
 pub struct Built {
     pub number: u32,
     pub place: u32,

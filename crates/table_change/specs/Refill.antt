@@ -1,5 +1,5 @@
 -- Defines one step of a withdrawal as the code takes it: RULES, "Withdraw". Assumes nothing.
-use Rattle.std.specs.Prelude.{Bool, cond, ℕ}
+use Rattle.std.specs.Prelude.{cond, ℕ}
 use Rattle.routes.specs.declared.Route.{Route}
 use Rattle.table_rules.specs.Rows.{Mem, child, route_of}
 use Rattle.bits.specs.Bits.{bit_before}

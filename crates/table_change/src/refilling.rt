@@ -64,7 +64,7 @@ fn is_last(q: Route, x: Row) -> bool
 }
 
 // What becomes of a place on the way: who holds it now, and what is to go from below, with its side and child.
-#[derive(Drop)]
+#[derive(Clone, Copy)]
 pub struct Refill {
     pub holder: Route,
     pub taken: Route,

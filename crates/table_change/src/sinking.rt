@@ -11,7 +11,7 @@ use table_rows::{route_of, row_at, store_row};
 use table_rules::Row;
 
 // What a route that sinks past a row does there: the row with its new holder, and what goes on down, with its side and child.
-#[derive(Drop)]
+#[derive(Clone, Copy)]
 pub struct Plan {
     pub upper: Row,
     pub lower: Route,

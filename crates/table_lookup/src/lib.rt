@@ -1,4 +1,6 @@
 // The table: lookup and the check of good order, on any lent rows.
+#![tactic(auto)]
+
 ghost use Rattle.std.specs.Prelude.{◌≡◌, cond};
 ghost use Rattle.table_rules.specs.Rows.{child};
 ghost use Rattle.table_rows.specs.Words.{capacity, row_at};

@@ -1,4 +1,6 @@
 // Where a row lies in the lent words: five words a row, value, length, port, left row, right row. Nothing else says so.
+#![tactic(auto)]
+
 ghost use Rattle.std.specs.Prelude.{◌≡◌, ◌<◌};
 ghost use Rattle.prefix.specs.Prefixes.{prefix};
 ghost use Rattle.table_rules.specs.Rows.{route_of};

@@ -2,25 +2,24 @@
 -- Assumes nothing.
 use mathlib.Core.Path.{◌≡◌, refl, sym, ap, ap₂, ◌∙◌, subst}
 use mathlib.Core.Bool.{Bool, true, false, cond, not}
-use mathlib.Core.List.{List, [], ◌∷◌, ◌++◌}
+use mathlib.Core.List.{[], ◌∷◌, ◌++◌}
 use Prim.Native.Nat.{ℕ, zero, suc, ◌+◌, ◌-◌, ◌<◌, ◌≤◌}
 use native.Mathlib.Omega.{arith}
-use lib.Dec.{eqb}
 use lib.ListN.{length, length-append}
 use borrow.Author.Tests.{eq-eqb, ne_eqb}
 use Rattle.bits.specs.Bits.{Bits, prefix_bits, same, bit_before}
 use Rattle.bits.proofs.Bits.{same_eq}
 use Rattle.trie.specs.Trie.{Trie, leaf, node, outranks}
-use Rattle.trie.specs.Update.{down, insert, grows_on, grows}
+use Rattle.trie.specs.Update.{down, insert, grows}
 use Rattle.trie.proofs.Insert.{lower_not_nil}
 use Rattle.routes.specs.Routes.{ValidRoute}
 use Rattle.routes.specs.declared.Route.{Route}
 use Rattle.table_rules.specs.Rows.{Mem, Layout, Stores, child, route_of, leaf_row, with_route, with_child}
-use Rattle.table_rules.specs.Holds.{Names, RowHolds, Holds, hit, times}
+use Rattle.table_rules.specs.Holds.{Names, Holds, hit, times}
 use Rattle.table_rules.specs.Announce.{is_same, outranks_row, sink_by, sink}
 use Rattle.table_rules.specs.declared.Row.{Row}
 use Rattle.table_rules.proofs.Paths.{At, at_bit, at_down, at_last, at_same, at_over}
-use Rattle.table_rules.proofs.Holds.{hit_same, hit_other, row_at, Below, below_root, below_child, times_child}
+use Rattle.table_rules.proofs.Holds.{hit_same, row_at, Below, below_root, below_child, times_child}
 use Rattle.table_rules.proofs.Frame.{Agree, times_frame, holds_frame, Unique, SideChanged, side_holds, side_times, unique_child, root_not_below, below_not_root, sides_apart}
 
 -- a valid route whose prefix is the path and then y

@@ -1,22 +1,21 @@
 -- The best route from rows on is the best of the trie that they hold. Assumes nothing.
-use mathlib.Core.Path.{◌≡◌, refl, sym, ap, ap₂, ◌∙◌, subst}
+use mathlib.Core.Path.{◌≡◌, refl, sym, ap, ◌∙◌, subst}
 use mathlib.Core.Bool.{Bool, true, false, cond}
-use mathlib.Core.List.{List, [], ◌∷◌, ◌++◌, append_assoc}
-use Prim.Native.Nat.{ℕ, zero, suc, ◌+◌, ◌-◌, ◌<◌, ◌≤◌}
+use mathlib.Core.List.{[], ◌∷◌, ◌++◌, append_assoc}
+use Prim.Native.Nat.{ℕ, zero, suc, ◌+◌, ◌-◌}
 use native.Mathlib.Omega.{arith}
 use lib.Dec.{eqb, ltb}
 use lib.ListN.{length, length-append}
 use borrow.Author.Tests.{eq-eqb, ne_eqb}
 use Rattle.bits.specs.Bits.{Bits}
-use Rattle.trie.specs.Trie.{Trie, leaf, node, is_priority, ahead}
+use Rattle.trie.specs.Trie.{Trie, leaf, node, ahead}
 use Rattle.trie.specs.Update.{Best, none, some, lift, first_of, or_own, below, best}
 use Rattle.routes.specs.declared.Route.{Route}
 use Rattle.table_rules.specs.Rows.{Mem, child, route_of}
-use Rattle.table_rules.specs.Holds.{Names, RowHolds, Holds}
+use Rattle.table_rules.specs.Holds.{Names, Holds}
 use Rattle.bits.specs.Prefix.{ahead_of}
 use Rattle.table_rules.specs.Withdraw.{or_route, first_route, best_at, best_child, best_below}
-use Rattle.routes.specs.Routes.{no_route}
-use Rattle.table_rules.proofs.Paths.{At, at_priority, at_ahead}
+use Rattle.table_rules.proofs.Paths.{at_priority, at_ahead}
 use Rattle.table_rules.proofs.Holds.{row_at, too_deep}
 use Rattle.table_rules.proofs.Announce.{RouteAt, at_of, route_row}
 

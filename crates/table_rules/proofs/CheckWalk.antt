@@ -1,7 +1,7 @@
 -- What the walk sees of rows that hold a trie: whether the trie is ordered, how many nodes it has, and its best. Assumes nothing.
 use mathlib.Core.Path.{◌≡◌, refl, sym, ap, ◌∙◌, subst}
 use mathlib.Core.Logic.{◌⊎◌, inl, inr}
-use mathlib.Core.Bool.{Bool, true, false, cond, not, ◌||◌, and-false}
+use mathlib.Core.Bool.{Bool, true, false, cond, ◌||◌, and-false}
 use mathlib.Core.List.{[], ◌∷◌, ◌++◌, append_assoc}
 use Prim.Native.Nat.{ℕ, zero, suc, ◌+◌, ◌-◌, ◌<◌}
 use native.Mathlib.Omega.{arith}
@@ -9,7 +9,7 @@ use lib.ListN.{length, length-append}
 use borrow.Author.Tests.{eq-eqb, ne_eqb, lt-ltb}
 use Rattle.bits.specs.Bits.{Bits}
 use Rattle.trie.specs.Trie.{Trie, leaf, node, ahead}
-use Rattle.trie.specs.Update.{Best, none, some, lift, first_of, or_own, below, best}
+use Rattle.trie.specs.Update.{Best, none, some, lift, first_of, or_own, best}
 use Rattle.table_rules.specs.Rows.{Mem, child}
 use Rattle.table_rules.specs.Holds.{Names, Holds}
 use Rattle.table_rules.specs.Lookup.{wrong_row}

@@ -1,15 +1,15 @@
 -- What is changed outside the rows of a trie leaves it as it is, and what is changed on one side leaves the other. Assumes nothing.
 use mathlib.Core.Path.{◌≡◌, refl, sym, ap, ap₂, ◌∙◌, subst, subst₂}
 use mathlib.Core.Logic.{◌⊎◌, inl, inr, ⊎_elim}
-use mathlib.Core.Bool.{Bool, true, false, cond, not}
-use mathlib.Core.List.{List, [], ◌∷◌, ◌++◌}
-use Prim.Native.Nat.{ℕ, zero, suc, ◌+◌, ◌<◌, ◌≤◌}
+use mathlib.Core.Bool.{Bool, true, false, not}
+use mathlib.Core.List.{[], ◌∷◌, ◌++◌}
+use Prim.Native.Nat.{ℕ, ◌+◌, ◌<◌, ◌≤◌}
 use native.Mathlib.Omega.{arith}
 use Rattle.bits.specs.Bits.{Bits}
 use Rattle.trie.specs.Trie.{Trie, leaf, node}
 use Rattle.routes.specs.Routes.{ValidRoute}
 use Rattle.table_rules.specs.Rows.{Mem, child, route_of, row_bits}
-use Rattle.table_rules.specs.Holds.{Names, RowHolds, Holds, hit, times}
+use Rattle.table_rules.specs.Holds.{Names, Holds, hit, times}
 use Rattle.table_rules.specs.declared.Row.{Row}
 use Rattle.table_rules.proofs.Holds.{hit_same, times_child}
 

@@ -1,8 +1,8 @@
 -- What rows that hold a trie say: of each row, of its children, and of the rows that are reached. Assumes nothing.
-use mathlib.Core.Path.{◌≡◌, refl, sym, ap, ap₂, ◌∙◌, subst}
+use mathlib.Core.Path.{◌≡◌, refl, ap, ◌∙◌}
 use mathlib.Core.Logic.{◌⊎◌, inl, inr, ⊎_elim}
 use mathlib.Core.Bool.{Bool, true, false, cond}
-use mathlib.Core.List.{List, [], ◌∷◌, ◌++◌}
+use mathlib.Core.List.{[], ◌∷◌, ◌++◌}
 use Prim.Native.Nat.{ℕ, zero, suc, ◌+◌, ◌<◌, ◌≤◌}
 use native.Mathlib.Omega.{arith}
 use lib.Dec.{eqb, ltb}
@@ -12,7 +12,7 @@ use Rattle.bits.specs.Bits.{Bits}
 use Rattle.lists.proofs.Tests.{way}
 use Rattle.trie.specs.Trie.{Trie, leaf, node}
 use Rattle.table_rules.specs.Rows.{Mem, child}
-use Rattle.table_rules.specs.Holds.{Names, RowHolds, Holds, hit, times}
+use Rattle.table_rules.specs.Holds.{Names, Holds, hit, times}
 use Rattle.table_rules.proofs.Paths.{At, at_len}
 use Rattle.lists.proofs.Sum.{sum, sum_none}
 

@@ -1,25 +1,23 @@
 -- The search on rows that hold a trie is the lookup on that trie. Assumes nothing.
-use mathlib.Core.Path.{◌≡◌, refl, sym, ap, ap₂, ◌∙◌, subst}
-use mathlib.Core.Logic.{◌⊎◌, inl, inr, ⊎_elim}
-use mathlib.Core.Bool.{Bool, true, false, cond, not, ◌&&◌, ◌||◌}
-use mathlib.Core.List.{List, [], ◌∷◌, ◌++◌, append_assoc}
-use Prim.Native.Nat.{ℕ, zero, suc, ◌+◌, ◌*◌, ◌-◌, ◌/◌, ◌%◌, ◌^◌, ◌<◌, ◌≤◌}
+use mathlib.Core.Path.{◌≡◌, refl, sym, ap, ap₂, ◌∙◌}
+use mathlib.Core.Bool.{Bool, true, false, cond, ◌&&◌}
+use mathlib.Core.List.{[], ◌∷◌, ◌++◌, append_assoc}
+use Prim.Native.Nat.{ℕ, zero, suc, ◌+◌, ◌-◌, ◌%◌, ◌^◌, ◌<◌, ◌≤◌}
 use native.Mathlib.Omega.{arith}
 use native.Mathlib.Nat.{add-zero, zero-add, mod-one}
-use lib.Dec.{eqb, ltb, leb}
-use lib.ListN.{length, take, length-append}
+use lib.Dec.{eqb, ltb}
+use lib.ListN.{length, length-append}
 use lib.Seq.{take_all}
 use borrow.Author.Tests.{eq-eqb, ne_eqb, lt-ltb, le-ltb, le-leb, lt-leb}
 use Rattle.bits.specs.Bits.{Bits, bits, begins, bit_before}
-use Rattle.bits.specs.Prefix.{head, matches}
+use Rattle.bits.specs.Prefix.{head}
 use Rattle.bits.proofs.Bits.{bit_at, length_bits}
 use Rattle.trie.specs.Routes.{Routes}
 use Rattle.trie.specs.Scan.{scan}
 use Rattle.trie.specs.Trie.{Trie, leaf, node, IsTrie, is_priority, better, ends, port, reads}
 use Rattle.trie.proofs.Lookup.{port_is_scan}
-use Rattle.routes.specs.Routes.{ValidRoute}
-use Rattle.table_rules.specs.Rows.{Mem, child, route_of}
-use Rattle.table_rules.specs.Holds.{Names, RowHolds, Holds, hit, times, Placed, HeldIn, GoodFor}
+use Rattle.table_rules.specs.Rows.{Mem, child}
+use Rattle.table_rules.specs.Holds.{Names, Holds, times}
 use Rattle.table_rules.specs.Lookup.{wrong_row, row_matches, ends_at, better_of, visit, onward, walk, lookup_in}
 use Rattle.refusals.specs.Refusals.{found, lost, not_in_order}
 use Rattle.table_rules.specs.Theorems.{LookupIsScan, ReadsLe}

@@ -2,12 +2,12 @@
 use mathlib.Core.Path.{◌≡◌, refl, sym, ap, ap₂, ◌∙◌, subst, subst₂}
 use mathlib.Core.Logic.{◌⊎◌, inl, inr, ⊎_elim}
 use mathlib.Core.Bool.{Bool, true, false, cond, not}
-use mathlib.Core.List.{List, [], ◌∷◌, ◌++◌, append_assoc}
-use Prim.Native.Nat.{ℕ, zero, suc, ◌+◌, ◌-◌, ◌<◌, ◌≤◌, ◌^◌}
+use mathlib.Core.List.{[], ◌∷◌, ◌++◌, append_assoc}
+use Prim.Native.Nat.{ℕ, zero, suc, ◌+◌, ◌-◌, ◌<◌, ◌^◌}
 use native.Mathlib.Omega.{arith}
 use lib.Dec.{eqb}
 use lib.ListN.{length, length-append}
-use borrow.Author.Tests.{eq-eqb, ne_eqb, eqb-true, eqb-false}
+use borrow.Author.Tests.{eqb-true, eqb-false}
 use Rattle.bits.specs.Bits.{Bits, prefix_bits, bit_before}
 use Rattle.bits.proofs.Bits.{bit_at}
 use Rattle.lists.proofs.Tests.{way}
@@ -15,11 +15,11 @@ use Rattle.trie.specs.Trie.{Trie, leaf, node}
 use Rattle.routes.specs.Routes.{ValidRoute}
 use Rattle.routes.specs.declared.Route.{Route}
 use Rattle.table_rules.specs.Rows.{Mem, Layout, Stores, child, route_of, row_bits, with_child}
-use Rattle.table_rules.specs.Holds.{Names, RowHolds, Holds, hit, times}
+use Rattle.table_rules.specs.Holds.{Names, Holds, hit, times}
 use Rattle.table_rules.specs.Withdraw.{relink}
 use Rattle.table_rules.specs.declared.Row.{Row}
 use Rattle.table_rules.proofs.Holds.{hit_same, hit_other, times_child, too_deep}
-use Rattle.table_rules.proofs.Frame.{Agree, times_frame, holds_frame, times_sides, Unique, SideChanged, side_holds, side_times, unique_child, root_not_below, below_not_root, sides_apart}
+use Rattle.table_rules.proofs.Frame.{Agree, times_frame, holds_frame, Unique, SideChanged, side_holds, side_times, unique_child, root_not_below, below_not_root, sides_apart}
 use Rattle.table_rules.proofs.Announce.{with_own, with_other}
 
 -- a row that is reached from a path has a valid route whose prefix begins with the path

@@ -1,9 +1,9 @@
 -- A prefix at a path: its numbers say what its bits below the path say. Here numbers meet the trie's bits. Assumes nothing.
-use mathlib.Core.Path.{◌≡◌, refl, sym, ap, ap₂, ◌∙◌, subst, subst₂}
-use mathlib.Core.Logic.{◌⊎◌, inl, inr, ⊎_elim}
+use mathlib.Core.Path.{◌≡◌, refl, sym, ap, ap₂, ◌∙◌, subst₂}
+use mathlib.Core.Logic.{◌⊎◌, inl, inr}
 use mathlib.Core.Bool.{Bool, true, false, not, ◌&&◌, ◌||◌}
-use mathlib.Core.List.{List, [], ◌∷◌, ◌++◌, append_assoc}
-use Prim.Native.Nat.{ℕ, zero, suc, ◌+◌, ◌*◌, ◌-◌, ◌/◌, ◌%◌, ◌^◌, ◌<◌, ◌≤◌}
+use mathlib.Core.List.{[], ◌∷◌, ◌++◌, append_assoc}
+use Prim.Native.Nat.{ℕ, suc, ◌+◌, ◌*◌, ◌-◌, ◌/◌, ◌%◌, ◌^◌, ◌<◌, ◌≤◌}
 use native.Mathlib.Omega.{arith}
 use native.Mathlib.Nat.{mul-lt-mul_of_pos_right, mul-le-mul_right}
 use lib.Dec.{eqb, ltb}
@@ -11,8 +11,8 @@ use lib.ListN.{length, take, length-append}
 use lib.Seq.{take-take, take-append_seam}
 use borrow.Author.Tests.{eq-eqb, eqb-true, lt-ltb, le-ltb}
 use Rattle.bits.specs.Bits.{Bits, value, bits, prefix_bits, same, begins}
-use Rattle.bits.specs.Prefix.{span, head, Valid, matches, first, same_prefix, ahead_of}
-use Rattle.bits.proofs.Bits.{same_refl, same_eq, length_take_bits, length_bits, value_prefix_bits, value_append, begins_append, bit_at, matches_begins}
+use Rattle.bits.specs.Prefix.{span, head, Valid, matches, same_prefix, ahead_of}
+use Rattle.bits.proofs.Bits.{same_refl, same_eq, length_take_bits, value_prefix_bits, value_append, begins_append, bit_at, matches_begins}
 use Rattle.bits.proofs.Prefix.{span_pos, first_valid}
 use Rattle.lists.proofs.Tests.{way, both, test_eq, eqb_same, ltb_same}
 use Rattle.trie.specs.Trie.{ahead, outranks, is_priority}

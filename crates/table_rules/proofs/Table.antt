@@ -1,8 +1,8 @@
 -- A table after an announcement or a withdrawal holds the trie of the changed set. Assumes nothing.
 use mathlib.Core.Path.{◌≡◌, refl, sym, ap, ap₂, ◌∙◌, subst}
 use mathlib.Core.Logic.{◌⊎◌, inl, inr, ⊎_elim}
-use mathlib.Core.Bool.{Bool, true, false, cond, not, ◌&&◌, true≢false, false≢true}
-use mathlib.Core.List.{List, [], ◌∷◌, ◌++◌}
+use mathlib.Core.Bool.{Bool, true, false, cond, ◌&&◌, true≢false}
+use mathlib.Core.List.{[], ◌∷◌, ◌++◌}
 use Prim.Native.Nat.{ℕ, zero, suc, ◌+◌, ◌-◌, ◌<◌, ◌≤◌}
 use native.Mathlib.Omega.{arith}
 use lib.Pow.{pow_pos}
@@ -16,7 +16,7 @@ use Rattle.lists.proofs.Tests.{way, both}
 use Rattle.trie.specs.Routes.{Routes, upd, side}
 use Rattle.trie.specs.Trie.{Trie, leaf, node, IsTrie, outranks}
 use Rattle.trie.specs.Update.{insert, grows, remove}
-use Rattle.trie.proofs.Routes.{upd_same, upd_other}
+use Rattle.trie.proofs.Routes.{upd_other}
 use Rattle.trie.proofs.Order.{under_not_nil}
 use Rattle.trie.proofs.Lookup.{top_none}
 use Rattle.trie.proofs.Insert.{insert_is, grows_is}
@@ -24,15 +24,15 @@ use Rattle.trie.proofs.Remove.{own_out, remove_is}
 use Rattle.routes.specs.Routes.{ValidRoute}
 use Rattle.routes.specs.declared.Route.{Route}
 use Rattle.table_rules.specs.Rows.{Mem, Layout, Stores, child, route_of, leaf_row}
-use Rattle.table_rules.specs.Holds.{Names, RowHolds, Holds, hit, times, Placed}
+use Rattle.table_rules.specs.Holds.{Names, Holds, hit, times, Placed}
 use Rattle.table_rules.specs.Announce.{is_same, outranks_row, held_at, is_held, sink, announced}
 use Rattle.table_rules.specs.Withdraw.{is_last, zero_row, Cut, cut, relink, move_row, close_gap, withdrawn}
 use Rattle.table_rules.specs.Theorems.{HeldIs, Announced, AnnouncedIs, Withdrawn, WithdrawnIs}
 use Rattle.table_rules.specs.declared.Row.{Row}
 use Rattle.table_rules.proofs.Paths.{At, at_bit, at_down, at_last, at_same, at_over}
-use Rattle.table_rules.proofs.Holds.{hit_same, hit_other, row_at, Below, below_once, times_child}
-use Rattle.table_rules.proofs.Frame.{Agree, times_frame, holds_frame, Unique}
-use Rattle.table_rules.proofs.Announce.{RouteAt, Grown, sink_grows}
+use Rattle.table_rules.proofs.Holds.{hit_same, hit_other, row_at, below_once, times_child}
+use Rattle.table_rules.proofs.Frame.{Agree, times_frame, holds_frame}
+use Rattle.table_rules.proofs.Announce.{Grown, sink_grows}
 use Rattle.table_rules.proofs.Withdraw.{Shrunk, leaf_of_lem, cut_shrinks}
 use Rattle.table_rules.proofs.Move.{Copied, Relinked, Moved, relink_moves}
 

@@ -1,33 +1,33 @@
 -- A route cut out of rows that hold a trie removes it from the trie; the row of the leaf that falls away is freed. Assumes nothing.
 use mathlib.Core.Path.{◌≡◌, refl, sym, ap, ap₂, ◌∙◌, subst}
-use mathlib.Core.Logic.{◌⊎◌, inl, inr, ⊎_elim}
-use mathlib.Core.Bool.{Bool, true, false, cond, not, ◌&&◌, true≢false, false≢true}
-use mathlib.Core.List.{List, [], ◌∷◌, ◌++◌}
-use Prim.Native.Nat.{ℕ, zero, suc, ◌+◌, ◌-◌, ◌<◌, ◌≤◌}
+use mathlib.Core.Logic.{◌⊎◌, inl, inr}
+use mathlib.Core.Bool.{Bool, true, false, cond, not, ◌&&◌, true≢false}
+use mathlib.Core.List.{[], ◌∷◌, ◌++◌}
+use Prim.Native.Nat.{ℕ, zero, suc, ◌+◌, ◌-◌, ◌<◌}
 use native.Mathlib.Omega.{arith}
 use lib.Dec.{eqb}
 use lib.ListN.{length, length-append}
-use borrow.Author.Tests.{eq-eqb, ne_eqb, eqb-true}
+use borrow.Author.Tests.{eq-eqb, eqb-true}
 use Rattle.bits.specs.Bits.{Bits, prefix_bits, same, bit_before}
-use Rattle.bits.proofs.Bits.{same_eq, same_refl}
+use Rattle.bits.proofs.Bits.{same_refl}
 use Rattle.lists.proofs.Tests.{way, both}
 use Rattle.trie.specs.Routes.{Routes, upd, side}
-use Rattle.trie.specs.Trie.{Trie, leaf, node, IsTrie, outranks}
-use Rattle.trie.specs.Update.{Best, none, some, lift, first_of, down, below, best, refill, remove}
+use Rattle.trie.specs.Trie.{Trie, leaf, node, IsTrie}
+use Rattle.trie.specs.Update.{Best, none, some, down, below, best, refill, remove}
 use Rattle.trie.proofs.Routes.{upd_other}
 use Rattle.trie.proofs.Order.{under_not_nil}
 use Rattle.trie.proofs.Remove.{own_out, below_is as below-leads, best_is as best-leads, IsBest}
 use Rattle.routes.specs.Routes.{ValidRoute}
 use Rattle.routes.specs.declared.Route.{Route}
 use Rattle.table_rules.specs.Rows.{Mem, Layout, Stores, child, route_of, with_route, with_child}
-use Rattle.table_rules.specs.Holds.{Names, RowHolds, Holds, hit, times}
+use Rattle.table_rules.specs.Holds.{Names, Holds, hit, times}
 use Rattle.table_rules.specs.Announce.{is_same}
 use Rattle.table_rules.specs.Withdraw.{best_below, is_last, Cut, cut_by, cut}
 use Rattle.table_rules.specs.declared.Row.{Row}
 use Rattle.table_rules.proofs.Paths.{At, at_bit, at_down, at_last, at_same}
 use Rattle.table_rules.proofs.Holds.{hit_same, row_at, times_child, too_deep}
 use Rattle.table_rules.proofs.Frame.{Agree, times_frame, holds_frame, Unique, SideChanged, side_holds, side_times, unique_child, root_not_below, below_not_root, sides_apart}
-use Rattle.table_rules.proofs.Announce.{RouteAt, at_of, route_down, route_row, down_own, down_other, with_own, with_other, route_keeps}
+use Rattle.table_rules.proofs.Announce.{RouteAt, at_of, route_row, down_own, down_other, with_own, with_other, route_keeps}
 use Rattle.table_rules.proofs.Best.{Finds, below_is}
 
 -- where something is below a place, its best is a route that goes on with a bit

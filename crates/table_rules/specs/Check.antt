@@ -4,7 +4,7 @@
 -- is handed up. Assumes nothing.
 use Rattle.std.specs.Prelude.{Bool, true, false, cond, not, ◌&&◌, ◌||◌, ℕ, zero, suc, ◌+◌, ◌-◌, ◌*◌, ◌^◌, eqb, ltb}
 use Rattle.bits.specs.Bits.{bit}
-use Rattle.table_rules.specs.Rows.{Mem, child}
+use Rattle.table_rules.specs.Rows.{Mem}
 use Rattle.bits.specs.Prefix.{ahead_of}
 use Rattle.table_rules.specs.Lookup.{wrong_row}
 use Rattle.table_rules.specs.declared.Row.{Row}

@@ -1,5 +1,5 @@
 -- Defines when rows hold a trie, and good order: RULES, "Good order". Assumes nothing.
-use Rattle.std.specs.Prelude.{◌≡◌, Bool, true, false, cond, List, [], ◌∷◌, ◌++◌, ℕ, ◌+◌, ◌<◌, ◌≤◌, eqb, ltb}
+use Rattle.std.specs.Prelude.{◌≡◌, Bool, true, false, cond, [], ◌∷◌, ◌++◌, ℕ, ◌+◌, ◌<◌, ◌≤◌, eqb, ltb}
 use Rattle.bits.specs.Bits.{Bits}
 use Rattle.trie.specs.Routes.{Routes}
 use Rattle.trie.specs.Trie.{Trie, leaf, node, IsTrie}

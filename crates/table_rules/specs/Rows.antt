@@ -1,6 +1,6 @@
 -- Defines rows as memory, and layouts of rows: RULES, "The table". Where a row lies in the words is no matter here: memory is a
 -- function from the row's number. Assumes nothing.
-use Rattle.std.specs.Prelude.{◌≡◌, Bool, cond, [], ◌∷◌, ℕ, ◌^◌, ◌<◌, eqb}
+use Rattle.std.specs.Prelude.{◌≡◌, Bool, cond, [], ◌∷◌, ℕ, ◌^◌, ◌<◌}
 use Rattle.bits.specs.Bits.{Bits, prefix_bits}
 use Rattle.routes.specs.declared.Route.{Route}
 use Rattle.table_rules.specs.declared.Row.{Row}

@@ -1,5 +1,5 @@
 -- Defines the set of routes that a trie holds: RULES, "The table". Assumes nothing.
-use Rattle.std.specs.Prelude.{Bool, List, [], ◌∷◌, ℕ}
+use Rattle.std.specs.Prelude.{Bool, [], ◌∷◌}
 use Rattle.trie.specs.Routes.{Routes, upd}
 use Rattle.trie.specs.Trie.{Trie, leaf, node}
 

@@ -17,7 +17,6 @@ use Rattle.table_rules.specs.Check.{is_good}
 use Rattle.table_rules.specs.Save.{saved}
 use Rattle.table_rules.specs.Announce.{is_held, announced}
 use Rattle.table_rules.specs.Withdraw.{zero_row, withdrawn}
-use Rattle.table_rules.specs.declared.Row.{Row}
 use Rattle.routes.specs.Scan.{scan_of}
 
 -- on a table in good order the lookup answers the plain scan's port, and reads as many rows as the path in the trie is long

@@ -1,6 +1,6 @@
 -- Defines the parts of the walks that check and save a table, as the code names them: RULES, "Good order" and "Build and save".
 -- Assumes nothing.
-use Rattle.std.specs.Prelude.{Bool, cond, not, ◌||◌, List, [], ℕ, eqb}
+use Rattle.std.specs.Prelude.{cond, not, ◌||◌, List, [], ℕ, eqb}
 use Rattle.routes.specs.declared.Route.{Route}
 use Rattle.table_rules.specs.Rows.{Mem}
 use Rattle.table_rules.specs.Check.{seen, no_rows, wrong_rows, seen_at}

@@ -1,7 +1,7 @@
 -- Defines how a route leaves the rows: RULES, "Withdraw". The place it leaves is filled from below, down to a leaf that falls away;
 -- then the last row moves to the number that is free. Over any layout of rows. Assumes nothing.
 use Rattle.std.specs.Prelude.{Bool, cond, ◌&&◌, ℕ, zero, suc, ◌-◌, eqb, ltb}
-use Rattle.routes.specs.Routes.{route, no_route}
+use Rattle.routes.specs.Routes.{no_route}
 use Rattle.routes.specs.declared.Route.{Route}
 use Rattle.table_rules.specs.Rows.{Mem, Layout, child, route_of, leaf_row, with_route, with_child}
 use Rattle.bits.specs.Prefix.{ahead_of}

@@ -1,8 +1,9 @@
 // Rows as memory that holds a priority trie, once over the width and over where a row lies: definitions and laws, and the
 // types that the table's code and these definitions share.
+#![tactic(auto)]
 
 // A row of the table: a route, and the rows of its two children, 0 for none.
-#[derive(Drop)]
+#[derive(Clone, Copy)]
 pub struct Row {
     pub value: u32,
     pub len: u32,
@@ -12,7 +13,7 @@ pub struct Row {
 }
 
 // What the check of good order has seen of a subtree: how many rows, and the value and length of the one that goes first.
-#[derive(Drop)]
+#[derive(Clone, Copy)]
 pub struct Seen {
     pub wrong: bool,
     pub rows: u64,

@@ -1,5 +1,7 @@
 // Saving a table as a list. The walk writes the routes in ascending order: what lies to the left, a free place, what lies to the
 // right, and then the row's own route into its place among them.
+#![tactic(auto)]
+
 ghost use Rattle.std.specs.Prelude.{◌≡◌, ◌+◌, ◌*◌, ◌<◌, ◌≤◌, length};
 ghost use Rattle.promise.specs.Over.{outcome};
 ghost use Rattle.table_rows.specs.Words.{row_count, capacity, row_at};

@@ -1,11 +1,9 @@
 -- Each answer of an update, by what the code knows where it returns. Assumes nothing.
-use mathlib.Core.Path.{◌≡◌, refl, sym, ap, ap₂, ◌∙◌, subst}
-use mathlib.Core.Logic.{◌⊎◌, inl, inr}
-use mathlib.Core.Bool.{Bool, true, false, cond, false≢true}
+use mathlib.Core.Path.{◌≡◌, refl, sym, ap, ap₂, ◌∙◌}
+use mathlib.Core.Bool.{Bool, true, false, false≢true}
 use mathlib.Core.List.{List}
 use Prim.Native.Nat.{ℕ, ◌+◌, ◌-◌, ◌<◌, ◌≤◌}
 use native.Mathlib.Omega.{arith}
-use lib.Dec.{eqb, ltb}
 use borrow.Author.Tests.{eq-eqb, ne_eqb, lt-ltb, le-ltb}
 use Rattle.promise.specs.Over.{Outcome, outcome}
 use Rattle.refusals.specs.Refusals.{no_room, not_held, not_in_order, accepted}
@@ -16,7 +14,7 @@ use Rattle.table_rules.specs.Rows.{Layout}
 use Rattle.table_rules.specs.Check.{is_good}
 use Rattle.table_rules.specs.Announce.{is_held}
 use Rattle.table_rules.specs.Withdraw.{withdrawn}
-use Rattle.table_update.specs.Calls.{keeping, leaves, announced_words, announce_in, announce_into, prefix_only, withdraw_in, withdraw_into}
+use Rattle.table_update.specs.Calls.{keeping, announced_words, announce_in, announce_into, prefix_only, withdraw_in, withdraw_into}
 
 -- a result and the memory with it
 both_are : (r r' : Answer) (ws ws' : List ℕ) → r ≡ r' → ws ≡ ws' → outcome r ws ≡ outcome r' ws'

@@ -1,23 +1,21 @@
 -- A table built from a valid list: it is in good order for the routes of the list, and each was accepted. Assumes nothing.
 use mathlib.Core.Path.{◌≡◌, refl, sym, ap, ◌∙◌, subst}
-use mathlib.Core.Bool.{Bool, true, false, cond}
-use mathlib.Core.List.{List, [], map}
-use Prim.Native.Nat.{ℕ, zero, suc, min, ◌+◌, ◌-◌, ◌<◌, ◌≤◌}
+use mathlib.Core.Bool.{true, false}
+use mathlib.Core.List.{List, map}
+use Prim.Native.Nat.{ℕ, zero, suc, ◌+◌, ◌-◌, ◌<◌, ◌≤◌}
 use native.Mathlib.Omega.{arith}
-use lib.Dec.{eqb, ltb}
-use borrow.Author.Tests.{eq-eqb, lt-ltb, le-ltb}
+use borrow.Author.Tests.{eq-eqb, lt-ltb}
 use Rattle.promise.specs.Over.{outcome}
-use Rattle.bits.specs.Bits.{bits, prefix_bits}
+use Rattle.bits.specs.Bits.{prefix_bits}
 use Rattle.trie.specs.Routes.{Routes, held}
-use Rattle.trie.specs.Scan.{scan}
 use Rattle.refusals.specs.Refusals.{accepted}
-use Rattle.routes.specs.Routes.{bit_route, ValidRoute, ValidList}
+use Rattle.routes.specs.Routes.{bit_route, ValidRoute}
 use Rattle.lists.specs.Numbered.{list_of}
 use Rattle.routes.specs.Check.{route_fault}
 use Rattle.routes.specs.declared.Route.{Route}
 use Rattle.routes.proofs.Held.{scan_is_held}
 use Rattle.table_rules.specs.Rows.{Layout, Stores}
-use Rattle.table_rules.specs.Holds.{Placed, GoodFor}
+use Rattle.table_rules.specs.Holds.{GoodFor}
 use Rattle.table_rules.specs.Check.{is_good}
 use Rattle.table_rules.specs.Announce.{is_held}
 use Rattle.refusals.specs.declared.found.Found.{Found}
@@ -28,7 +26,7 @@ use Rattle.table_update.specs.Calls.{announced_words, announce_in, announce_into
 use Rattle.table_update.specs.Needs.{Fills}
 use Rattle.table_update.specs.Theorems.{BuiltIs, BuiltLookupIsScan, BuildIsAnnouncing}
 use Rattle.table_update.proofs.Arguments.{route_faultless}
-use Rattle.table_update.proofs.FillLoop.{Filling, filling_none, filling_room, filling_more, filling_set}
+use Rattle.table_update.proofs.FillLoop.{Filling, filling_none, filling_more, filling_set}
 
 module _ (L : Layout (List ℕ)) (w : ℕ) (st : Stores w L) (R : ℕ → Route) (words : List ℕ) (n : ℕ) (fills : Fills L w R words n) where
   -- after i routes, whatever is left

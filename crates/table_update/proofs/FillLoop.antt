@@ -1,13 +1,10 @@
 -- The routes of a valid list announced one after the other: each is new, and gets the next row. Assumes nothing.
 use mathlib.Core.Path.{◌≡◌, refl, sym, ap, ap₂, ◌∙◌, subst}
-use mathlib.Core.Logic.{◌⊎◌, inl, inr}
-use mathlib.Core.Bool.{Bool, true, false, cond}
-use mathlib.Core.List.{List, [], map}
-use Prim.Native.Nat.{ℕ, zero, suc, min, ◌+◌, ◌-◌, ◌/◌, ◌<◌, ◌≤◌}
+use mathlib.Core.Bool.{Bool, cond}
+use mathlib.Core.List.{List, map}
+use Prim.Native.Nat.{ℕ, suc, ◌+◌, ◌-◌, ◌<◌, ◌≤◌}
 use native.Mathlib.Omega.{arith}
 use native.Mathlib.Nat.{sub-zero}
-use lib.Dec.{eqb, ltb, leb}
-use lib.ListN.{length}
 use borrow.Author.Tests.{eq-eqb, le-leb, lt-leb, ne_eqb, le-ltb}
 use Rattle.promise.specs.Over.{outcome}
 use Rattle.bits.specs.Bits.{Bits, prefix_bits}
@@ -16,7 +13,7 @@ use Rattle.trie.specs.Trie.{leaf}
 use Rattle.trie.proofs.Routes.{same_no, upd_other}
 use Rattle.refusals.specs.Refusals.{no_room, refused, accepted}
 use Rattle.routes.specs.Bounds.{most_routes}
-use Rattle.routes.specs.Routes.{route_at, route_count, bit_route, ValidList}
+use Rattle.routes.specs.Routes.{route_at, route_count, bit_route}
 use Rattle.lists.specs.Numbered.{list_of}
 use Rattle.routes.specs.Check.{list_check}
 use Rattle.refusals.specs.declared.Answer.{Answer}
@@ -25,7 +22,7 @@ use Rattle.routes.proofs.Check.{accepted_sized}
 use Rattle.routes.proofs.Rising.{prefixes_differ}
 use Rattle.table_rules.specs.Rows.{Mem, Layout, Stores}
 use Rattle.table_rules.specs.Holds.{Placed}
-use Rattle.table_rules.specs.Announce.{is_held, announced}
+use Rattle.table_rules.specs.Announce.{announced}
 use Rattle.table_rules.specs.Theorems.{Announced}
 use Rattle.table_rules.proofs.Closed.{announced_room}
 use Rattle.table_rules.proofs.Table.{announced_is}

@@ -1,37 +1,30 @@
 -- Demand 3: after any history the table is in good order for just the routes of each prefix's last accepted call. Assumes nothing.
 use mathlib.Core.Path.{◌≡◌, refl, sym, ap, ap₂, ◌∙◌, subst, fun_ext}
-use mathlib.Core.Logic.{◌⊎◌, inl, inr, ⊎_elim}
-use mathlib.Core.Bool.{Bool, true, false, cond, ◌&&◌, true≢false, false≢true}
+use mathlib.Core.Bool.{Bool, true, false, cond, true≢false}
 use mathlib.Core.List.{List, [], ◌∷◌}
-use Prim.Native.Nat.{ℕ, zero, suc, min, ◌+◌, ◌-◌, ◌/◌, ◌%◌, ◌^◌, ◌<◌, ◌≤◌}
+use Prim.Native.Nat.{ℕ, ◌+◌, ◌-◌, ◌^◌, ◌<◌, ◌≤◌}
 use native.Mathlib.Omega.{arith}
-use lib.Dec.{eqb, leb, ltb}
-use lib.ListN.{length}
-use borrow.Author.Tests.{eq-eqb, ne_eqb, eqb-true, eqb-false, leb-true, ltb-true, ltb-false, le-leb, lt-ltb, le-ltb}
+use lib.Dec.{eqb, ltb}
+use borrow.Author.Tests.{eq-eqb, ne_eqb, eqb-true, ltb-true, ltb-false}
 use Rattle.promise.specs.Over.{Outcome, outcome}
 use Rattle.bits.specs.Bits.{Bits, prefix_bits, same}
-use Rattle.bits.specs.Prefix.{span, clear, Valid}
-use Rattle.lists.proofs.Tests.{way, both}
+use Rattle.bits.specs.Prefix.{Valid}
 use Rattle.trie.specs.Routes.{Routes, no_routes, upd}
-use Rattle.trie.proofs.Routes.{none_or_some}
-use Rattle.refusals.specs.Refusals.{no_room, not_held, not_in_order, accepted, unless}
-use Rattle.routes.specs.Bounds.{most_routes, last_port}
+use Rattle.refusals.specs.Refusals.{no_room, not_held, not_in_order, accepted}
 use Rattle.routes.specs.Routes.{ValidRoute}
-use Rattle.routes.specs.Check.{is_port, prefix_fault, route_fault}
+use Rattle.routes.specs.Check.{prefix_fault, route_fault}
 use Rattle.refusals.specs.declared.Answer.{Answer}
 use Rattle.routes.specs.declared.Route.{Route}
-use Rattle.routes.proofs.Faults.{unless_none}
 use Rattle.table_rules.specs.Rows.{Layout, Stores}
-use Rattle.table_rules.specs.Holds.{Placed, HeldIn, GoodFor}
+use Rattle.table_rules.specs.Holds.{Placed, GoodFor}
 use Rattle.table_rules.specs.Check.{is_good}
-use Rattle.table_rules.specs.Announce.{is_held, announced, sink}
+use Rattle.table_rules.specs.Announce.{is_held}
 use Rattle.table_rules.specs.Withdraw.{withdrawn}
-use Rattle.table_rules.specs.Theorems.{Announced, Withdrawn}
 use Rattle.table_rules.proofs.Table.{held_is, announced_is, withdrawn_is}
 use Rattle.table_rules.proofs.Closed.{announced_room, withdrawn_room}
 use Rattle.table_rules.proofs.Good.{check_is_good, placed→held}
-use Rattle.table_update.specs.Calls.{keeping, leaves, announced_words, announce_in, announce_into, prefix_only, withdraw_in, withdraw_into}
-use Rattle.table_update.specs.History.{Call, announcing, withdrawing, Table, outcome_of, after, is_accepted, ran, call_prefix, call_port, port_after, Fits, AllFit}
+use Rattle.table_update.specs.Calls.{leaves, announced_words, announce_in, announce_into, prefix_only, withdraw_in, withdraw_into}
+use Rattle.table_update.specs.History.{Call, announcing, withdrawing, Table, after, is_accepted, ran, call_prefix, call_port, port_after, AllFit}
 use Rattle.table_update.specs.Theorems.{CallIs, RefusedKeeps, HistoryIs}
 use Rattle.table_update.proofs.Arguments.{prefix_valid, route_valid}
 use Rattle.table_update.proofs.FillLoop.{placed_none}

@@ -1,5 +1,5 @@
 -- Defines the calls that change a table, on its words: RULES, "Announce", "Withdraw" and the order of their refusals. Assumes nothing.
-use Rattle.std.specs.Prelude.{Bool, cond, List, ℕ, zero, suc, ◌+◌, ◌-◌, eqb, leb, ltb}
+use Rattle.std.specs.Prelude.{cond, List, ℕ, zero, suc, ◌+◌, ◌-◌, eqb, leb, ltb}
 use Rattle.promise.specs.Over.{Outcome, outcome}
 use Rattle.refusals.specs.Refusals.{no_room, not_held, not_in_order, refused, accepted, keeping_at}
 use Rattle.routes.specs.Routes.{route, route_at, route_count}

@@ -1,9 +1,8 @@
 -- Defines a history of calls on a table: demand 3, "after any sequence of announcements and withdrawals, some refused". Assumes nothing.
-use Rattle.std.specs.Prelude.{◌≡◌, Bool, true, false, cond, List, [], ◌∷◌, ℕ, ◌^◌, ◌<◌, eqb}
+use Rattle.std.specs.Prelude.{◌≡◌, Bool, true, cond, List, [], ◌∷◌, ℕ, ◌^◌, ◌<◌, eqb}
 use Rattle.promise.specs.Over.{Outcome}
 use Rattle.lists.specs.Numbered.{list_of}
 use Rattle.bits.specs.Bits.{Bits, prefix_bits, same}
-use Rattle.trie.specs.Routes.{Routes, no_routes, upd}
 use Rattle.refusals.specs.declared.Answer.{Answer}
 use Rattle.routes.specs.declared.Route.{Route}
 use Rattle.table_rules.specs.Rows.{Layout}

@@ -13,7 +13,7 @@ use Rattle.table_rules.specs.Holds.{GoodFor}
 use Rattle.table_rules.specs.Lookup.{lookup_in}
 use Rattle.refusals.specs.declared.found.Found.{Found}
 use Rattle.table_update.specs.Calls.{announce_into, built_from, build_into}
-use Rattle.table_update.specs.History.{Call, announcing, Table, after, is_accepted, ran, call_prefix, call_port, port_after, Fits, AllFit, AllAccepted, announcements}
+use Rattle.table_update.specs.History.{Call, Table, after, is_accepted, ran, call_prefix, call_port, port_after, Fits, AllFit, AllAccepted, announcements}
 
 -- one call on a table in good order for S: accepted, it is in good order for the changed set; refused, nothing has changed
 abbrev pub CallIs : Layout (List ℕ) → ℕ → Type 0

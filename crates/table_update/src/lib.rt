@@ -1,5 +1,7 @@
 // Changing a table: announce, withdraw and build, on lent rows. Announce and withdraw are a thin checked shell over an inner
 // update that assumes good order.
+#![tactic(auto)]
+
 ghost use Rattle.std.specs.Prelude.{◌≡◌, ◌-◌, ◌<◌};
 ghost use Rattle.table_rows.specs.Words.{five_words};
 ghost use Rattle.promise.specs.Over.{outcome};

@@ -1,9 +1,9 @@
 -- Insertion keeps the rule of the trie. Assumes nothing.
 use mathlib.Core.Path.{◌≡◌, refl, sym, ap, ◌∙◌, subst}
-use mathlib.Core.Logic.{◌⊎◌, inl, inr, ⊎_elim}
+use mathlib.Core.Logic.{◌⊎◌, inl, inr}
 use mathlib.Core.Bool.{Bool, true, false, cond, true≢false}
-use mathlib.Core.List.{List, [], ◌∷◌}
-use Prim.Native.Nat.{ℕ, zero, suc, ◌<◌}
+use mathlib.Core.List.{[], ◌∷◌}
+use Prim.Native.Nat.{ℕ, ◌<◌}
 use native.Mathlib.Omega.{arith}
 use lib.Dec.{eqb}
 use borrow.Author.Tests.{eq-eqb, ne_eqb}
@@ -11,7 +11,7 @@ use Rattle.bits.specs.Bits.{Bits, same}
 use Rattle.bits.proofs.Bits.{same_refl, same_eq}
 use Rattle.lists.proofs.Tests.{way}
 use Rattle.trie.specs.Routes.{Routes, upd, side}
-use Rattle.trie.specs.Trie.{Trie, leaf, node, NodeRule, IsTrie, Top, outranks}
+use Rattle.trie.specs.Trie.{Trie, leaf, node, IsTrie, Top, outranks}
 use Rattle.trie.specs.Update.{down, insert, grows_on, grows}
 use Rattle.trie.specs.Theorems.{InsertIs, GrowsIs}
 use Rattle.trie.proofs.Routes.{same_sym, upd_same, upd_other, upd_again, upd_none, upd_swap, upd_back}

@@ -1,19 +1,19 @@
 -- The set that a list of routes holds, and the plain scan of a list as that of its set. Assumes nothing.
-use mathlib.Core.Path.{◌≡◌, refl, sym, ap, ap₂, ◌∙◌, subst, fun_ext}
+use mathlib.Core.Path.{◌≡◌, refl, sym, ap, ◌∙◌, subst, fun_ext}
 use mathlib.Core.Logic.{◌⊎◌, inl, inr, ⊎_elim}
-use mathlib.Core.Bool.{Bool, true, false, cond, ◌&&◌, true≢false, false≢true}
+use mathlib.Core.Bool.{Bool, true, false, true≢false}
 use mathlib.Core.List.Memᴰ
 use mathlib.Core.List.{List, [], ◌∷◌, Memᴰ}
-use Prim.Native.Nat.{ℕ, zero, suc, ◌+◌, ◌<◌, ◌≤◌}
+use Prim.Native.Nat.{ℕ, ◌+◌, ◌<◌, ◌≤◌}
 use native.Mathlib.Omega.{arith}
 use lib.Dec.{leb}
 use lib.ListN.{length}
-use borrow.Author.Tests.{leb-true, leb-false, le-leb, lt-leb}
+use borrow.Author.Tests.{leb-true, leb-false}
 use Rattle.bits.specs.Bits.{Bits, same, begins}
 use Rattle.bits.proofs.Bits.{same_eq, same_refl}
-use Rattle.lists.proofs.Tests.{way, both}
-use Rattle.trie.specs.Routes.{Route, Routes, no_routes, upd, held_from, held, Distinct, Ported}
-use Rattle.trie.specs.Scan.{longest, plain_scan, scan_list, scan}
+use Rattle.lists.proofs.Tests.{way}
+use Rattle.trie.specs.Routes.{Route, Routes, no_routes, upd, held_from, held, Distinct}
+use Rattle.trie.specs.Scan.{longest, plain_scan}
 use Rattle.trie.specs.Theorems.{PlainScanIs, ScanListIsScan}
 use Rattle.trie.proofs.Routes.{same_no, upd_same, upd_other}
 use Rattle.trie.proofs.Scan.{scan_none, scan_longest}

@@ -2,14 +2,14 @@
 use mathlib.Core.Path.{◌≡◌, refl, sym, ap, ◌∙◌}
 use mathlib.Core.Logic.{⊎_elim}
 use mathlib.Core.Bool.{Bool, true, false, cond, ◌&&◌, true≢false}
-use mathlib.Core.List.{List, [], ◌∷◌}
-use Prim.Native.Nat.{ℕ, zero, suc, ◌+◌, ◌<◌, ◌≤◌}
+use mathlib.Core.List.{[], ◌∷◌}
+use Prim.Native.Nat.{ℕ, suc, ◌+◌, ◌<◌, ◌≤◌}
 use native.Mathlib.Omega.{arith}
 use lib.ListN.{length}
 use Rattle.bits.specs.Bits.{Bits, begins}
 use Rattle.trie.specs.Routes.{Routes, upd, side}
 use Rattle.trie.specs.Scan.{or_else, scan}
-use Rattle.trie.specs.Trie.{Trie, leaf, node, NodeRule, IsTrie, Top, outranks, ends, port, reads}
+use Rattle.trie.specs.Trie.{Trie, leaf, node, IsTrie, Top, outranks, ends, port, reads}
 use Rattle.trie.specs.Theorems.{PortIsScan, ReadsLe}
 use Rattle.trie.proofs.Routes.{none_or_some}
 use Rattle.trie.proofs.Order.{outranks_longer}

@@ -1,13 +1,13 @@
 -- Removal keeps the rule of the trie: the place is refilled by the best of everything below it. Assumes nothing.
 use mathlib.Core.Path.{◌≡◌, refl, sym, ap, ◌∙◌}
 use mathlib.Core.Bool.{Bool, true, false, cond, true≢false}
-use mathlib.Core.List.{List, [], ◌∷◌}
+use mathlib.Core.List.{[], ◌∷◌}
 use Prim.Native.Nat.{ℕ, ◌<◌}
 use native.Mathlib.Omega.{arith}
 use Rattle.bits.specs.Bits.{Bits, same}
 use Rattle.bits.proofs.Bits.{same_refl, same_eq}
 use Rattle.trie.specs.Routes.{Routes, upd, side}
-use Rattle.trie.specs.Trie.{Trie, leaf, node, NodeRule, IsTrie, Top, ahead, outranks}
+use Rattle.trie.specs.Trie.{Trie, leaf, node, IsTrie, Top, ahead, outranks}
 use Rattle.trie.specs.Update.{down, Best, none, some, lift, first_of, or_own, below, best, refill, remove}
 use Rattle.trie.specs.Theorems.{RemoveIs}
 use Rattle.trie.proofs.Routes.{same_sym, upd_other, upd_swap}

@@ -1,13 +1,12 @@
 -- Laws of sets of routes: what a change leaves, and that changes of different prefixes commute. Assumes nothing.
-use mathlib.Core.Path.{◌≡◌, refl, sym, ap, ◌∙◌, subst, fun_ext}
-use mathlib.Core.Logic.{◌⊎◌, inl, inr, ⊎_elim}
+use mathlib.Core.Path.{◌≡◌, refl, sym, ap, ◌∙◌, fun_ext}
+use mathlib.Core.Logic.{◌⊎◌, inl, inr}
 use mathlib.Core.Bool.{Bool, true, false, cond, true≢false}
-use mathlib.Core.List.{List, [], ◌∷◌}
 use Prim.Native.Nat.{ℕ, zero, suc, ◌<◌}
 use native.Mathlib.Omega.{arith}
 use Rattle.bits.specs.Bits.{Bits, same}
 use Rattle.bits.proofs.Bits.{same_refl, same_eq}
-use Rattle.lists.proofs.Tests.{way, test_no}
+use Rattle.lists.proofs.Tests.{test_no}
 use Rattle.trie.specs.Routes.{Routes, upd}
 
 pub same_no : (s q : Bits) → (s ≡ q → ⊥) → same s q ≡ false

@@ -1,13 +1,12 @@
 -- The rule has exactly one trie for each set that is announced, whatever the order of its routes. Assumes nothing.
-use mathlib.Core.Path.{◌≡◌, refl, sym, ap, ◌∙◌, fun_ext, subst}
-use mathlib.Core.Logic.{◌⊎◌, inl, inr, ⊎_elim}
-use mathlib.Core.Bool.{Bool, true, false}
+use mathlib.Core.Path.{◌≡◌, refl, sym, ap, ◌∙◌, fun_ext}
+use mathlib.Core.Bool.{Bool}
 use mathlib.Core.List.{List, [], ◌∷◌, Memᴰ}
-use Prim.Native.Nat.{ℕ, ◌<◌}
+use Prim.Native.Nat.{ℕ}
 use native.Mathlib.Omega.{arith}
 use Rattle.bits.specs.Bits.{Bits}
-use Rattle.trie.specs.Routes.{Route, Routes, no_routes, upd, side, held_from, held, Distinct, Ported}
-use Rattle.trie.specs.Trie.{Trie, leaf, node, NodeRule, IsTrie}
+use Rattle.trie.specs.Routes.{Route, Routes, no_routes, upd, side, held_from, held, Ported}
+use Rattle.trie.specs.Trie.{Trie, leaf, node, IsTrie}
 use Rattle.trie.specs.Update.{insert, insert_all}
 use Rattle.trie.specs.Theorems.{TrieUnique, TrieExists, OrderDoesNotMatter}
 use Rattle.trie.proofs.Order.{outranks_same}

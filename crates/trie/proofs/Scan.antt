@@ -1,11 +1,11 @@
 -- The plain scan of a set: what it finds, and what makes no difference to it. Assumes nothing.
-use mathlib.Core.Path.{◌≡◌, refl, sym, ap, ap₂, ◌∙◌}
-use mathlib.Core.Bool.{Bool, true, false, beq, cond, ◌&&◌, true≢false, false≢true}
-use mathlib.Core.List.{List, [], ◌∷◌}
-use Prim.Native.Nat.{ℕ, zero, suc, ◌<◌, ◌≤◌}
+use mathlib.Core.Path.{◌≡◌, refl, sym, ap, ◌∙◌}
+use mathlib.Core.Bool.{Bool, true, false, beq, true≢false, false≢true}
+use mathlib.Core.List.{[], ◌∷◌}
+use Prim.Native.Nat.{ℕ, zero, suc, ◌<◌}
 use native.Mathlib.Omega.{arith}
 use lib.ListN.{length}
-use Rattle.bits.specs.Bits.{Bits, same, begins}
+use Rattle.bits.specs.Bits.{Bits, begins}
 use Rattle.bits.proofs.Bits.{beq_refl, beq_eq}
 use Rattle.lists.proofs.Tests.{both}
 use Rattle.trie.specs.Routes.{Routes, upd, side}

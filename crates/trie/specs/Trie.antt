@@ -1,6 +1,6 @@
 -- Defines the priority trie, its rule and its lookup: RULES, "The table". No flag tells a priority node from an ordinary one: a node has
 -- the bits of its prefix BELOW its own path, and is ordinary exactly if it has none. Neither depth nor width occurs. Assumes nothing.
-use Rattle.std.specs.Prelude.{◌≡◌, Bool, true, false, cond, ◌&&◌, ◌||◌, List, [], ◌∷◌, ℕ, ◌+◌, ◌<◌, eqb, ltb, length}
+use Rattle.std.specs.Prelude.{◌≡◌, Bool, true, false, cond, ◌&&◌, ◌||◌, [], ◌∷◌, ℕ, ◌+◌, ◌<◌, eqb, ltb, length}
 use Rattle.bits.specs.Bits.{Bits, value, begins}
 use Rattle.trie.specs.Routes.{Routes, upd, side}
 

@@ -1,0 +1,6 @@
+use mathlib.Core.Path.{ap, ◌∙◌}
+use Rattle.refusals.specs.Reply.{looked}
+use Rattle.maftehon.proofs.images.mft_image_lookup_1.Goals as goal
+
+pub returns : goal.returns
+returns c = c.looked.ensures ∙ ap looked c.lookup_1.ensures

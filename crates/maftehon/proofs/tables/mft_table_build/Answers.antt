@@ -1,0 +1,5 @@
+use Rattle.maftehon.proofs.Reply.{replied_is}
+use Rattle.maftehon.proofs.tables.mft_table_build.Goals as goal
+
+pub returns : goal.returns
+returns c = replied_is _ _ _ _ c.build.ensures c.counted.ensures

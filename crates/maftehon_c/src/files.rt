@@ -1,0 +1,19 @@
+// The route file.
+ghost use Rattle.std.specs.Prelude.{◌≡◌};
+ghost use Rattle.promise.specs.Over.{outcome};
+ghost use Rattle.file_rules.specs.Calls.{read_file, write_file};
+ghost use Rattle.refusals.specs.Reply.{reply, replied};
+
+#[unsafe(no_mangle)]
+pub extern "C" fn mft_file_read(file: &[u8], list: &mut [u32], answer: &mut [u32; 2]) -> u32
+    ensures { outcome (reply result answer.new) list.new ≡ replied (read_file 32 file.now list.old) }
+{
+    maftehon::files::mft_file_read(file, list, answer)
+}
+
+#[unsafe(no_mangle)]
+pub extern "C" fn mft_file_write(list: &[u32], file: &mut [u8], answer: &mut [u32; 2]) -> u32
+    ensures { outcome (reply result answer.new) file.new ≡ replied (write_file 32 list.now file.old) }
+{
+    maftehon::files::mft_file_write(list, file, answer)
+}

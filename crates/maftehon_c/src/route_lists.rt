@@ -1,0 +1,28 @@
+// The route list: its check, its plain scan, and its run listing.
+ghost use Rattle.std.specs.Prelude.{◌≡◌};
+ghost use Rattle.promise.specs.Over.{outcome};
+ghost use Rattle.routes.specs.Check.{list_check};
+ghost use Rattle.routes.specs.Scan.{list_scan};
+ghost use Rattle.runs_rules.specs.Listing.{list_runs};
+ghost use Rattle.refusals.specs.Reply.{reply, placed, counted, replied};
+
+#[unsafe(no_mangle)]
+pub extern "C" fn mft_list_check(list: &[u32], answer: &mut [u32; 1]) -> u32
+    ensures { reply result answer.new ≡ placed (list_check 32 list.now) }
+{
+    maftehon::route_lists::mft_list_check(list, answer)
+}
+
+#[unsafe(no_mangle)]
+pub extern "C" fn mft_list_scan(list: &[u32], address: u32, answer: &mut [u32; 2]) -> u32
+    ensures { reply result answer.new ≡ counted (list_scan 32 list.now address) }
+{
+    maftehon::route_lists::mft_list_scan(list, address, answer)
+}
+
+#[unsafe(no_mangle)]
+pub extern "C" fn mft_list_runs(list: &[u32], runs: &mut [u32], answer: &mut [u32; 2]) -> u32
+    ensures { outcome (reply result answer.new) runs.new ≡ replied (list_runs 32 list.now runs.old) }
+{
+    maftehon::route_lists::mft_list_runs(list, runs, answer)
+}

@@ -1,0 +1,8 @@
+use mathlib.Core.Path.{sym, ◌∙◌}
+use Rattle.table_lookup.proofs.check.Goals as goal
+
+pub returns-then-is_good : goal.returns-then-is_good
+returns-then-is_good c = rw (sym c.is_good.ensures ∙ c.if-is_good.true) c.accepted.ensures
+
+pub returns-else-is_good : goal.returns-else-is_good
+returns-else-is_good c = rw (sym c.is_good.ensures ∙ c.if-is_good.false) c.refused.ensures

@@ -1,0 +1,8 @@
+use borrow.Author.Tests.{le-ltb}
+use native.Mathlib.Omega.{arith}
+use Rattle.table_rows.specs.Words.{row_count, row_at}
+use Rattle.table_rows.proofs.row_at.Goals as goal
+
+pub returns-else-r-rows : goal.returns-else-r-rows
+unfolding row_at
+returns-else-r-rows c = let d = c.args in rw (le-ltb d.r (row_count d.rows.now) (omega arith))

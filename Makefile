@@ -4,7 +4,7 @@
 
 help:
 	@echo "make test        prove every crate, try every must-fail edit, run every program and test; ends in 'N passed, 0 failed'"
-	@echo "make prove       prove every crate that has changed, and run the programs"
+	@echo "make prove       prove every crate that has changed"
 	@echo "make lib         leave libmaftehon.a and its header in target/lib"
 	@echo "make mft         build the program mft, for route files from the command line, and say where it is"
 	@echo "make install     put the archive, its header, a pkg-config file, mft and runs below PREFIX=/usr/local"
@@ -21,10 +21,9 @@ test:
 	@scripts/gate
 
 prove:
-	rt check
+	rt all check
 
-# The processor that the archive is compiled for, as the compiler names it (native: this machine's). Without one it is the plain archive,
-# which is shipped. Whatever stands on the archive takes it too: make bench CPU=x86-64-v2.
+# The processor that the archive is compiled for, as the compiler names it. Without one it is the plain archive, which is shipped. Whatever stands on the archive takes it too: make bench CPU=x86-64-v2.
 CPU =
 lib:
 	@scripts/lib target/lib '$(CPU)'
@@ -37,7 +36,7 @@ mft: lib
 # The archive and both commands, where programs look for them.
 PREFIX ?= /usr/local
 install: mft
-	@scripts/proving runs
+	@scripts/build-runs
 	@scripts/install '$(PREFIX)'
 
 # The tools of rust/tools, on the archive that `lib` leaves.
@@ -61,4 +60,4 @@ runs:
 	@scripts/runs $(FILE)
 
 layout:
-	rt fmt
+	@for crate in crates/*/; do (cd "$$crate" && rt fmt) || exit 1; done

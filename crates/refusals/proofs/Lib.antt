@@ -1,2 +1,3 @@
 -- Laws of answers.
+pub mod Numbers
 pub mod Unique

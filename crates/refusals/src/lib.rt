@@ -2,40 +2,78 @@
 #![tactic(auto)]
 
 ghost use Rattle.std.specs.Prelude.{◌≡◌};
-ghost use Rattle.refusals.specs.Refusals.{refused, keeping_at, accepted};
+ghost use Rattle.refusals.specs.Refusals.{number_of, refusal_at, refused, keeping_at, accepted, checked, answered, updated};
 
 pub mod found;
 pub mod reply;
 
-pub const SHORT_FILE: u32 = 1;
+// Why a call refuses. 13 is the number of none: it was for more than 8,193 runs, which 4,096 routes cannot have.
+#[derive(Clone, Copy, Debug, PartialEq, Eq)]
+pub enum Fault {
+    ShortFile,
+    WrongVersion,
+    WrongSize,
+    LongPrefix,
+    SpareBits,
+    WrongPort,
+    NotAbove,
+    TooManyRoutes,
+    NoRoom,
+    NotHeld,
+    NotInOrder,
+    WrongStride,
+    BadMessage,
+}
 
-pub const WRONG_VERSION: u32 = 2;
+// The published number.
+impl From<Fault> for u32 {
+    ghost from_gives = { λ fault x. x ≡ number_of fault };
 
-pub const WRONG_SIZE: u32 = 3;
+    fn from(fault: Fault) -> u32 {
+        match fault {
+            Fault::ShortFile => 1,
+            Fault::WrongVersion => 2,
+            Fault::WrongSize => 3,
+            Fault::LongPrefix => 4,
+            Fault::SpareBits => 5,
+            Fault::WrongPort => 6,
+            Fault::NotAbove => 7,
+            Fault::TooManyRoutes => 8,
+            Fault::NoRoom => 9,
+            Fault::NotHeld => 10,
+            Fault::NotInOrder => 11,
+            Fault::WrongStride => 12,
+            Fault::BadMessage => 14,
+        }
+    }
+}
 
-pub const LONG_PREFIX: u32 = 4;
+// A refusal: why, and the place.
+#[derive(Clone, Copy, Debug, PartialEq, Eq)]
+pub struct Refusal {
+    pub fault: Fault,
+    pub place: u32,
+}
 
-pub const SPARE_BITS: u32 = 5;
+impl Fault {
+    // The refusal at a place.
+    pub fn at(self, place: u32) -> Refusal
+        ensures { result ≡ refusal_at self place }
+    {
+        Refusal { fault: self, place }
+    }
+}
 
-pub const WRONG_PORT: u32 = 6;
+// At place 0.
+impl From<Fault> for Refusal {
+    ghost from_gives = { λ fault r. r ≡ refusal_at fault 0 };
 
-pub const NOT_ABOVE: u32 = 7;
+    fn from(fault: Fault) -> Refusal {
+        fault.at(0)
+    }
+}
 
-pub const TOO_MANY_ROUTES: u32 = 8;
-
-pub const NO_ROOM: u32 = 9;
-
-pub const NOT_HELD: u32 = 10;
-
-pub const NOT_IN_ORDER: u32 = 11;
-
-pub const WRONG_STRIDE: u32 = 12;
-
-// 13 is not given, and no other refusal takes the number: it was for more than 8,193 runs, which 4,096 routes cannot have.
-
-pub const BAD_MESSAGE: u32 = 14;
-
-// What a call answers: the refusal's number and place, both 0 where it is done, and its one other result.
+// What C is told of a call: the refusal's number and place, both 0 where it is done, and its one other result.
 #[derive(Clone, Copy)]
 pub struct Answer {
     pub number: u32,
@@ -72,6 +110,40 @@ impl Answer {
             number: 0,
             place: 0,
             count,
+        }
+    }
+
+    // An update of a table of n routes.
+    pub fn updated(n: u32, x: Result<u32, Refusal>) -> Self
+        ensures { result ≡ updated n x }
+    {
+        match x {
+            Ok(count) => Self::accepted(count),
+            Err(r) => Self::keeping(u32::from(r.fault), r.place, n),
+        }
+    }
+}
+
+// A check, which has no other result.
+impl From<Result<(), Refusal>> for Answer {
+    ghost from_gives = { λ x answer. answer ≡ checked x };
+
+    fn from(x: Result<(), Refusal>) -> Answer {
+        match x {
+            Ok(()) => Answer::accepted(0),
+            Err(r) => Answer::refused(u32::from(r.fault), r.place),
+        }
+    }
+}
+
+// A call with one other result.
+impl From<Result<u32, Refusal>> for Answer {
+    ghost from_gives = { λ x answer. answer ≡ answered x };
+
+    fn from(x: Result<u32, Refusal>) -> Answer {
+        match x {
+            Ok(count) => Answer::accepted(count),
+            Err(r) => Answer::refused(u32::from(r.fault), r.place),
         }
     }
 }

@@ -3,15 +3,13 @@
 
 ghost use Rattle.std.specs.Prelude.{◌≡◌, cond, get_or};
 ghost use Rattle.prefix.specs.Prefixes.{prefix};
-ghost use Rattle.refusals.specs.Refusals.{refused, accepted};
+ghost use Rattle.refusals.specs.Refusals.{fault_number, checked, answered};
 ghost use Rattle.routes.specs.Routes.{route_at, store_route};
 ghost use Rattle.routes.specs.Check.{is_port, prefix_fault, route_fault, fault_at, list_check};
 ghost use Rattle.routes.specs.Scan.{route_matches, list_scan};
 
 use prefix::Prefix;
-use refusals::{
-    Answer, LONG_PREFIX, NOT_ABOVE, SPARE_BITS, TOO_MANY_ROUTES, WRONG_PORT, WRONG_SIZE,
-};
+use refusals::{Fault, Refusal};
 
 // A route: a prefix and a port.
 #[derive(Clone, Copy)]
@@ -53,29 +51,30 @@ pub fn is_port(port: u32) -> bool
     (0 < port) & (port <= LAST_PORT)
 }
 
-// What is wrong with a prefix, 0 if nothing is: 4, its length is above 32; 5, bits are set past its length.
-pub fn prefix_fault(value: u32, len: u32) -> u32
-    ensures { result ≡ prefix_fault 32 value len 0 }
+// Whether a prefix may be a route's. Refuses 4, its length is above 32; 5, bits are set past its length.
+pub fn prefix_fault(value: u32, len: u32) -> Result<(), Fault>
+    ensures { fault_number result ≡ prefix_fault 32 value len 0 }
 {
     if 32 < len {
-        return LONG_PREFIX;
+        return Err(Fault::LongPrefix);
     }
     if Prefix::new(value, len).is_clear() {
-        0
+        Ok(())
     } else {
-        SPARE_BITS
+        Err(Fault::SpareBits)
     }
 }
 
-// What is wrong with a route by itself, 0 if nothing is: 4 and 5 on its prefix; 6, its port is outside 1..4094.
-pub fn route_fault(route: Route) -> u32
-    ensures { result ≡ route_fault 32 route 0 }
+// Whether a route by itself may stand in a list. Refuses 4 and 5 on its prefix; 6, its port is outside 1..4094.
+pub fn route_fault(route: Route) -> Result<(), Fault>
+    ensures { fault_number result ≡ route_fault 32 route 0 }
 {
-    let fault = prefix_fault(route.value, route.len);
-    if fault != 0 {
-        return fault;
+    prefix_fault(route.value, route.len)?;
+    if is_port(route.port) {
+        Ok(())
+    } else {
+        Err(Fault::WrongPort)
     }
-    if is_port(route.port) { 0 } else { WRONG_PORT }
 }
 
 // A word of a list; 0 past its end.
@@ -127,47 +126,41 @@ pub fn store_route(list: &mut [u32], i: usize, r: Route)
     }
 }
 
-// What is wrong with route i of a list, 0 if nothing is: 4, 5, 6 on it by itself; 7, it is not above the one before.
-fn fault_at(list: &[u32], i: usize) -> u32
-    ensures { result ≡ fault_at 32 (route_at list.now) i }
+// Whether route i of a list may stand there. Refuses 4, 5, 6 on it by itself; 7, it is not above the one before.
+fn fault_at(list: &[u32], i: usize) -> Result<(), Fault>
+    ensures { fault_number result ≡ fault_at 32 (route_at list.now) i }
 {
     let route = route_at(list, i);
-    let fault = route_fault(route);
-    if fault != 0 {
-        return fault;
-    }
+    route_fault(route)?;
     if i == 0 {
-        return 0;
+        return Ok(());
     }
     let before = route_at(list, i - 1);
     if before.prefix().precedes(route.prefix()) {
-        0
+        Ok(())
     } else {
-        NOT_ABOVE
+        Err(Fault::NotAbove)
     }
 }
 
 // Checks a list. Refuses 3, no whole routes, and 8, more than 4,096, at place 0; then the first route that is at fault,
 // by its number from 0, with its first fault of 4, 5, 6, 7.
-pub fn check_list(list: &[u32]) -> Answer
-    ensures { result ≡ list_check 32 list.now }
+pub fn check_list(list: &[u32]) -> Result<(), Refusal>
+    ensures { checked result ≡ list_check 32 list.now }
 {
     if list.len() % ROUTE_SIZE != 0 {
-        return Answer::refused(WRONG_SIZE, 0);
+        return Err(Fault::WrongSize.at(0));
     }
     let n = list.len() / ROUTE_SIZE;
     if MOST_ROUTES < n {
-        return Answer::refused(TOO_MANY_ROUTES, 0);
+        return Err(Fault::TooManyRoutes.at(0));
     }
-    let mut i = 0;
-    while i < n {
-        let fault = fault_at(list, i);
-        if fault != 0 {
-            return Answer::refused(fault, i as u32);
+    for i in 0..n {
+        if let Err(fault) = fault_at(list, i) {
+            return Err(fault.at(i as u32));
         }
-        i += 1;
     }
-    Answer::accepted(0)
+    Ok(())
 }
 
 // The route's port if it matches the address, else the port so far.
@@ -182,20 +175,14 @@ fn port_of_match(route: Route, address: u32, port: u32) -> u32
 }
 
 // The plain scan: of the routes that match, the port of the longest; 0 if none matches. Refuses as the check does.
-pub fn scan_list(list: &[u32], address: u32) -> Answer
-    ensures { result ≡ list_scan 32 list.now address }
+pub fn scan_list(list: &[u32], address: u32) -> Result<u32, Refusal>
+    ensures { answered result ≡ list_scan 32 list.now address }
 {
-    let checked = check_list(list);
-    if checked.number != 0 {
-        return checked;
-    }
-    let n = list.len() / ROUTE_SIZE;
+    check_list(list)?;
     let mut port = 0;
-    let mut i = 0;
-    while i < n {
+    for i in 0..list.len() / ROUTE_SIZE {
         // In a valid list a longer match stands after a shorter one: the last match is the longest.
         port = port_of_match(route_at(list, i), address, port);
-        i += 1;
     }
-    Answer::accepted(port)
+    Ok(port)
 }

@@ -1,17 +1,20 @@
-use mathlib.Core.Path.{sym, ◌∙◌}
+use mathlib.Core.Path.{refl, sym, ◌∙◌}
+use Rattle.std.proofs.lemmas.Result.{err_from_is_err_and}
+use Rattle.refusals.proofs.Numbers.{number_ne0}
 use Rattle.routes.proofs.Faults.{prefix_fault_rest, chain_fault, chain_rest}
 use Rattle.routes.proofs.route_fault.Goals as goal
 
-pub returns-then-fault-ne0 : goal.returns-then-fault-ne0
-returns-then-fault-ne0 c = let r = c.args.route in
-    sym (chain_fault _ (prefix_fault_rest 32 r.value r.len) _ c.prefix_fault-fault.ensures _ c.if-fault-ne0.true)
+pub returns-in_err-prefix_fault : goal.returns-in_err-prefix_fault
+returns-in_err-prefix_fault c = let r = c.args.route in
+    let p = err_from_is_err_and c.from_residual.result c.from_residual.ensures.1 in
+    rw (p.1, p.2) (sym (chain_fault _ (prefix_fault_rest 32 r.value r.len) _ c.in_err-prefix_fault.ensures _ (number_ne0 _)))
 
 pub returns-then-is_port : goal.returns-then-is_port
 returns-then-is_port c = let r = c.args.route in
-    let p = c.prefix_fault-fault.ensures in
-    sym (chain_rest _ (prefix_fault_rest 32 r.value r.len) _ p _ c.if-fault-ne0.false ∙ rw (sym c.is_port.ensures ∙ c.if-is_port.true))
+    let p = c.in_ok-prefix_fault.ensures in
+    sym (chain_rest _ (prefix_fault_rest 32 r.value r.len) _ p _ refl ∙ rw (sym c.is_port.ensures ∙ c.if-is_port.true))
 
 pub returns-else-is_port : goal.returns-else-is_port
 returns-else-is_port c = let r = c.args.route in
-    let p = c.prefix_fault-fault.ensures in
-    sym (chain_rest _ (prefix_fault_rest 32 r.value r.len) _ p _ c.if-fault-ne0.false ∙ rw (sym c.is_port.ensures ∙ c.if-is_port.false))
+    let p = c.in_ok-prefix_fault.ensures in
+    sym (chain_rest _ (prefix_fault_rest 32 r.value r.len) _ p _ refl ∙ rw (sym c.is_port.ensures ∙ c.if-is_port.false))

@@ -7,7 +7,8 @@ use lib.ListN.{length}
 use Rattle.prefix.specs.declared.Prefix.{Prefix}
 use Rattle.octets.specs.Octets.{prefix_size}
 use Rattle.octets.specs.Taken.{taken_at}
-use Rattle.octets.specs.declared.Taken.TheVariants.{Whole, Long, Cut}
+use Rattle.std.proofs.Common.{Ok, Err}
+use Rattle.octets.specs.declared.NoPrefix.TheVariants.{Long, Cut}
 use Rattle.message_rules.specs.Message.{prefixes_from, prefixes_in}
 use Rattle.octets.proofs.TakeReturns.{whole_taken}
 use Rattle.message_rules.proofs.Walk.{prefixes_after, prefixes_whole, prefixes_long, prefixes_cut, prefixes_end}
@@ -26,7 +27,7 @@ module _ {X : Type 0} (step : X → Prefix → X) (w : ℕ) (part : List ℕ) (s
   }
 
   module _ (s : X) (at : ℕ) (so : Walked step w part s₀ s at) where
-    pub walked_more : (p : Prefix) → taken_at w part at ≡ Whole p → (s' : X) → s' ≡ step s p → (k : ℕ) → k ≡ prefix_size p.len
+    pub walked_more : (p : Prefix) → taken_at w part at ≡ Ok p → (s' : X) → s' ≡ step s p → (k : ℕ) → k ≡ prefix_size p.len
         → Walked step w part s₀ s' (at + k)
     unfolding folded
     walked_more p e s' s-is k k-is =
@@ -44,10 +45,10 @@ module _ {X : Type 0} (step : X → Prefix → X) (w : ℕ) (part : List ℕ) (s
     unfolding folded
     stop e = sym (ap (folded step s) e) ∙ so.is
 
-    pub walked_long : taken_at w part at ≡ Long → s ≡ folded step s₀ (prefixes_in w part)
+    pub walked_long : taken_at w part at ≡ (Err Long) → s ≡ folded step s₀ (prefixes_in w part)
     walked_long e = stop (prefixes_long w part at e)
 
-    pub walked_cut : taken_at w part at ≡ Cut → s ≡ folded step s₀ (prefixes_in w part)
+    pub walked_cut : taken_at w part at ≡ (Err Cut) → s ≡ folded step s₀ (prefixes_in w part)
     walked_cut e = stop (prefixes_cut w part at e)
 
     pub walked_all : length part ≤ at → s ≡ folded step s₀ (prefixes_in w part)

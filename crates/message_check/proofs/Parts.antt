@@ -8,7 +8,8 @@ use Rattle.prefix.specs.declared.Prefix.{Prefix}
 use Rattle.refusals.specs.Refusals.{long_prefix, bad_message, refused, accepted}
 use Rattle.octets.specs.Octets.{prefix_size}
 use Rattle.octets.specs.Taken.{taken_at}
-use Rattle.octets.specs.declared.Taken.TheVariants.{Whole, Long, Cut}
+use Rattle.std.proofs.Common.{Ok, Err}
+use Rattle.octets.specs.declared.NoPrefix.TheVariants.{Long, Cut}
 use Rattle.message_rules.specs.Check.{part_from, part_check}
 use Rattle.octets.proofs.TakeReturns.{whole_taken}
 use Rattle.message_rules.proofs.Walk.{part_after, part_whole, part_long, part_cut, part_end}
@@ -23,7 +24,7 @@ module _ (w : ℕ) (part : List ℕ) (from : ℕ) where
   passed_none = record { within = omega arith; is = ap (λ (k : ℕ). part_from w part from k 0) (let e : length part ≡ length part - 0 = omega arith in e) }
 
   module _ (at : ℕ) (so : Passed w part from at) where
-    pub passed_more : (p : Prefix) (k : ℕ) → taken_at w part at ≡ Whole p → k ≡ prefix_size p.len → Passed w part from (at + k)
+    pub passed_more : (p : Prefix) (k : ℕ) → taken_at w part at ≡ Ok p → k ≡ prefix_size p.len → Passed w part from (at + k)
     passed_more p k e k-is =
         let h = whole_taken w part at p e in
         let l = ap (λ (q : Prefix). prefix_size q.len) h.is in
@@ -32,10 +33,10 @@ module _ (w : ℕ) (part : List ℕ) (from : ℕ) where
           is = so.is ∙ part_whole w part from at p e ∙ ap (λ (j : ℕ). part_after w part from (at + j)) (sym k-is);
         }
 
-    pub passed_long : at < length part → taken_at w part at ≡ Long → refused long_prefix (from + at) ≡ part_check w part from
+    pub passed_long : at < length part → taken_at w part at ≡ (Err Long) → refused long_prefix (from + at) ≡ part_check w part from
     passed_long h e = sym (so.is ∙ part_long w part from at h e)
 
-    pub passed_cut : at < length part → taken_at w part at ≡ Cut → refused bad_message (from + at) ≡ part_check w part from
+    pub passed_cut : at < length part → taken_at w part at ≡ (Err Cut) → refused bad_message (from + at) ≡ part_check w part from
     passed_cut h e = sym (so.is ∙ part_cut w part from at h e)
 
     pub passed_all : length part ≤ at → accepted 0 ≡ part_check w part from

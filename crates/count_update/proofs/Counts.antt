@@ -21,7 +21,7 @@ use Rattle.table_rules.specs.Check.{is_good}
 use Rattle.table_update.specs.Calls.{keeping}
 use Rattle.message_rules.specs.Check.{message_check}
 use Rattle.message_check.specs.Checked.{checked_of}
-use Rattle.message_check.specs.declared.Checked.{Checked}
+use Rattle.message_check.specs.Checked.{Checked}
 use Rattle.message_check.proofs.Whole.{checked_answer}
 use Rattle.count_rules.specs.Tally.{ports, differ}
 use Rattle.count_rules.specs.Counted.{message_fault, counts_of, make_counts, first_check, recounted}

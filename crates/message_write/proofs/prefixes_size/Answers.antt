@@ -12,12 +12,6 @@ loop-i-init c = let list = c.args.list.now in
 pub overflow_add-size : goal.overflow_add-size
 overflow_add-size c = omega (arith, counted_small 32 c.args.list.now c.requires c.loop-i.size c.loop-i.i c.loop-i.invariant, c.prefix_size-size.ensures.small)
 
-pub overflow_add-i : goal.overflow_add-i
-overflow_add-i c = omega arith
-
-pub loop-i-smaller : goal.loop-i-smaller
-loop-i-smaller c = omega arith
-
 pub loop-i-preserved : goal.loop-i-preserved
 loop-i-preserved c = let list = c.args.list.now in
     summed_more (prefix_coding 32) (route_at list) (route_count list) c.loop-i.size c.loop-i.i c.loop-i.invariant c.loop-i-test.true _ _ c.route_at-r.ensures c.prefix_size-size.ensures.is

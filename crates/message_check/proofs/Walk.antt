@@ -5,12 +5,13 @@ use Prim.Native.Nat.{ℕ, ◌+◌, ◌-◌, ◌≤◌, ◌<◌}
 use native.Mathlib.Omega.{arith}
 use lib.ListN.{length}
 use Rattle.prefix.specs.declared.Prefix.{Prefix}
-use Rattle.refusals.specs.Refusals.{long_prefix, bad_message, refused, accepted}
+use Rattle.refusals.specs.Refusals.{refused, accepted}
 use Rattle.octets.specs.Octets.{prefix_size}
 use Rattle.octets.specs.Taken.{taken_at}
 use Rattle.std.proofs.Common.{Ok, Err}
+use Rattle.octets.specs.declared.NoPrefix.{NoPrefix}
 use Rattle.octets.specs.declared.NoPrefix.TheVariants.{Long, Cut}
-use Rattle.message_rules.specs.Check.{part_from, part_check}
+use Rattle.message_rules.specs.Check.{fault_of, part_from, part_check}
 use Rattle.octets.proofs.TakeReturns.{whole_taken}
 use Rattle.message_rules.proofs.Walk.{part_after, part_whole, part_long, part_cut, part_end}
 
@@ -33,11 +34,9 @@ module _ (w : ℕ) (part : List ℕ) (from : ℕ) where
           is = so.is ∙ part_whole w part from at p e ∙ ap (λ (j : ℕ). part_after w part from (at + j)) (sym k-is);
         }
 
-    pub passed_long : at < length part → taken_at w part at ≡ (Err Long) → refused long_prefix (from + at) ≡ part_check w part from
-    passed_long h e = sym (so.is ∙ part_long w part from at h e)
-
-    pub passed_cut : at < length part → taken_at w part at ≡ (Err Cut) → refused bad_message (from + at) ≡ part_check w part from
-    passed_cut h e = sym (so.is ∙ part_cut w part from at h e)
+    pub passed_stop : at < length part → (none : NoPrefix) → taken_at w part at ≡ Err none → refused (fault_of (Err none)) (from + at) ≡ part_check w part from
+    passed_stop h Long e = sym (so.is ∙ part_long w part from at h e)
+    passed_stop h Cut e = sym (so.is ∙ part_cut w part from at h e)
 
     pub passed_all : length part ≤ at → accepted 0 ≡ part_check w part from
     passed_all h = sym (so.is ∙ part_end w part from at h)

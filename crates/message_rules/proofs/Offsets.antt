@@ -2,7 +2,7 @@
 use mathlib.Core.Path.{◌≡◌, refl, sym, ap, ◌∙◌}
 use mathlib.Core.Logic.{◌⊎◌, inl, inr}
 use mathlib.Core.List.{List, ◌∷◌}
-use Prim.Native.Nat.{ℕ, zero, suc, ◌+◌, ◌-◌}
+use Prim.Native.Nat.{ℕ, zero, suc, ◌+◌}
 use native.Mathlib.Omega.{arith}
 use native.Mathlib.Numerals.{add-one}
 use native.Mathlib.Nat.{sub-zero}
@@ -20,7 +20,8 @@ use Rattle.message_rules.specs.Message.{prefixes_from}
 use Rattle.message_rules.specs.Check.{fault_of}
 use Rattle.message_rules.specs.Faults.{offset_of, WholePart}
 use Rattle.message_rules.specs.Theorems.{PrefixFaults, PrefixesAre}
-use Rattle.message_rules.proofs.Walk.{prefixes_after, prefixes_whole, prefixes_end}
+use Rattle.message_rules.proofs.Walk.{prefixes_whole, prefixes_end}
+use Rattle.message_rules.specs.Message.{prefixes_after}
 
 pub offset_none : (part : List ℕ) → offset_of part 0 ≡ 0
 unfolding offset_of

@@ -16,18 +16,14 @@ use Rattle.octets.specs.Octets.{prefix_size, len_at}
 use Rattle.octets.specs.Taken.{taken_at}
 use Rattle.octets.specs.Taken.{Taken}
 use Rattle.std.proofs.Common.{Ok, Err}
+use Rattle.octets.specs.declared.NoPrefix.{NoPrefix}
 use Rattle.octets.specs.declared.NoPrefix.TheVariants.{Long, Cut}
 use Rattle.octets.proofs.TakeReturns.{taken_past, whole_taken}
 use Rattle.octets.proofs.Prefixes.{prefix_valid}
-use Rattle.message_rules.specs.Message.{ahead, prefixes_from, AllValid}
+use Rattle.message_rules.specs.Message.{ahead, prefixes_from, prefixes_after, AllValid}
 use Rattle.message_rules.specs.Check.{fault_of, part_from}
 
 module _ (w : ℕ) (part : List ℕ) where
-  -- the prefixes, and the check, from an offset on
-
-  abbrev pub prefixes_after : ℕ → List Prefix
-  prefixes_after at = prefixes_from w part (length part - at) at
-
   -- past the end there are none
   prefixes_past : (k at : ℕ) → length part ≤ at → prefixes_from w part k at ≡ []
   unfolding prefixes_from
@@ -43,25 +39,29 @@ module _ (w : ℕ) (part : List ℕ) where
   prefixes_enough (suc k) (suc m) at h g =
       ap (ahead (taken_at w part at)) (prefixes_enough k m (at + prefix_size (len_at part at)) (omega arith) (omega arith))
 
-  prefixes_next : (at : ℕ) → prefixes_after at ≡ ahead (taken_at w part at) (prefixes_after (at + prefix_size (len_at part at)))
+  prefixes_next : (at : ℕ) → prefixes_after w part at ≡ ahead (taken_at w part at) (prefixes_after w part (at + prefix_size (len_at part at)))
   unfolding prefixes_from
   prefixes_next at =
       let next = at + prefix_size (len_at part at) in
       prefixes_enough (length part - at) (suc (length part)) at (omega arith) (omega arith)
       ∙ ap (ahead (taken_at w part at)) (prefixes_enough (length part) (length part - next) next (omega arith) (omega arith))
 
-  pub prefixes_whole : (at : ℕ) (p : Prefix) → taken_at w part at ≡ Ok p → prefixes_after at ≡ p ∷ prefixes_after (at + prefix_size p.len)
+  pub prefixes_whole : (at : ℕ) (p : Prefix) → taken_at w part at ≡ Ok p → prefixes_after w part at ≡ p ∷ prefixes_after w part (at + prefix_size p.len)
   prefixes_whole at p e =
-      prefixes_next at ∙ ap (λ (t : Taken). ahead t (prefixes_after (at + prefix_size (len_at part at)))) e
-      ∙ ap (λ (l : ℕ). p ∷ prefixes_after (at + prefix_size l)) (sym (ap (λ (q : Prefix). q.len) (whole_taken w part at p e).is))
+      prefixes_next at ∙ ap (λ (t : Taken). ahead t (prefixes_after w part (at + prefix_size (len_at part at)))) e
+      ∙ ap (λ (l : ℕ). p ∷ prefixes_after w part (at + prefix_size l)) (sym (ap (λ (q : Prefix). q.len) (whole_taken w part at p e).is))
 
-  pub prefixes_long : (at : ℕ) → taken_at w part at ≡ (Err Long) → prefixes_after at ≡ []
-  prefixes_long at e = prefixes_next at ∙ ap (λ (t : Taken). ahead t (prefixes_after (at + prefix_size (len_at part at)))) e
+  pub prefixes_long : (at : ℕ) → taken_at w part at ≡ (Err Long) → prefixes_after w part at ≡ []
+  prefixes_long at e = prefixes_next at ∙ ap (λ (t : Taken). ahead t (prefixes_after w part (at + prefix_size (len_at part at)))) e
 
-  pub prefixes_cut : (at : ℕ) → taken_at w part at ≡ (Err Cut) → prefixes_after at ≡ []
-  prefixes_cut at e = prefixes_next at ∙ ap (λ (t : Taken). ahead t (prefixes_after (at + prefix_size (len_at part at)))) e
+  pub prefixes_cut : (at : ℕ) → taken_at w part at ≡ (Err Cut) → prefixes_after w part at ≡ []
+  prefixes_cut at e = prefixes_next at ∙ ap (λ (t : Taken). ahead t (prefixes_after w part (at + prefix_size (len_at part at)))) e
 
-  pub prefixes_end : (at : ℕ) → length part ≤ at → prefixes_after at ≡ []
+  pub prefixes_stop : (at : ℕ) (none : NoPrefix) → taken_at w part at ≡ Err none → prefixes_after w part at ≡ []
+  prefixes_stop at Long e = prefixes_long at e
+  prefixes_stop at Cut e = prefixes_cut at e
+
+  pub prefixes_end : (at : ℕ) → length part ≤ at → prefixes_after w part at ≡ []
   prefixes_end at h = prefixes_past (length part - at) at h
 
   -- each prefix takes a byte or more

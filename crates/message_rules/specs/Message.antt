@@ -1,5 +1,5 @@
 -- Defines the fields and the two parts of an UPDATE message, and the prefixes of a part: RULES, "UPDATE messages". Assumes nothing.
-use Rattle.std.specs.Prelude.{Bool, not, List, [], ◌∷◌, ℕ, zero, suc, ◌+◌, eqb, length, get_or, take, drop}
+use Rattle.std.specs.Prelude.{Bool, not, List, [], ◌∷◌, ℕ, zero, suc, ◌+◌, ◌-◌, eqb, length, get_or, take, drop}
 use Rattle.bits.specs.Prefix.{Valid}
 use Rattle.lists.specs.Below.{some_below}
 use Rattle.prefix.specs.declared.Prefix.{Prefix}
@@ -80,6 +80,10 @@ prefixes_from w part (suc k) at = ahead (taken_at w part at) (prefixes_from w pa
 -- each takes a byte or more
 abbrev pub prefixes_in : ℕ → List ℕ → List Prefix
 prefixes_in w part = prefixes_from w part (length part) 0
+
+-- those that are left from an offset on
+abbrev pub prefixes_after : ℕ → List ℕ → ℕ → List Prefix
+prefixes_after w part at = prefixes_from w part (length part - at) at
 
 abbrev pub withdrawn_in : ℕ → List ℕ → List Prefix
 withdrawn_in w message = prefixes_in w (withdrawn_part message)

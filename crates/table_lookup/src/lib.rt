@@ -78,10 +78,9 @@ pub fn lookup(rows: &[u32], n: u32, address: u32) -> Result<Reached, Lost>
     if n == 0 {
         return Ok(Reached { port: 0, reads: 0 });
     }
-    let mut depth: u32 = 0;
     let mut row: u32 = 0;
     let mut best: u32 = 0;
-    loop {
+    for depth in 0..33 {
         let x = whole_row(rows, row);
         let reads = depth + 1;
         if is_wrong(x, n, address, depth) {
@@ -99,15 +98,16 @@ pub fn lookup(rows: &[u32], n: u32, address: u32) -> Result<Reached, Lost>
         }
         // An ordinary match does not end the search: a longer route may lie below it.
         best = better(x, matched, best);
-        if depth == 32 {
-            return Ok(Reached { port: best, reads });
-        }
-        row = child_on(x, address, 32 - reads);
+        // At depth 32 no bit is left and no row is read after this one, whichever child that names.
+        row = child_on(x, address, 31u32.wrapping_sub(depth));
         if row == 0 {
             return Ok(Reached { port: best, reads });
         }
-        depth = reads;
     }
+    Ok(Reached {
+        port: best,
+        reads: 33,
+    })
 }
 
 // Whether a table of n rows is in good order.

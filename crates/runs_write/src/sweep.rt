@@ -1,13 +1,14 @@
 // The sweep over the addresses that lists the runs of a valid list, with the routes that are open at the present one on a stack.
 ghost use Rattle.std.specs.Prelude.{◌≡◌};
 ghost use Rattle.promise.specs.Over.{outcome};
+ghost use Rattle.refusals.specs.Refusals.{answered};
 ghost use Rattle.routes.specs.Routes.{route_at, ValidList};
 ghost use Rattle.runs_rules.specs.Listing.{listed, write_runs};
 ghost use Rattle.runs_write.specs.Sweep.{start_of};
 ghost use Rattle.runs_write.specs.Needs.{RoomFor, Ended, Turned, GoneOn, Sweepable, Swept};
 
 use crate::RUN_SIZE;
-use refusals::{Answer, NO_ROOM};
+use refusals::{Fault, Refusal};
 use routes::route_at;
 
 // The last of all addresses.
@@ -130,28 +131,28 @@ fn sweep(list: &[u32], n: usize, runs: &mut [u32], write: bool) -> usize
 }
 
 // Where the lent memory may be short for the runs, they are counted first, so that nothing is written before 9 is known.
-fn write_counted(list: &[u32], n: usize, runs: &mut [u32]) -> Answer
+fn write_counted(list: &[u32], n: usize, runs: &mut [u32]) -> Result<u32, Refusal>
     requires { ValidList 32 (route_at list.now) n }
-    ensures { outcome result runs.new ≡ write_runs (listed 32 (route_at list.now) n) runs.old }
+    ensures { outcome (answered result) runs.new ≡ write_runs (listed 32 (route_at list.now) n) runs.old }
 {
     let count = sweep(list, n, runs, false);
     if runs.len() / RUN_SIZE < count {
-        return Answer::refused(NO_ROOM, 0);
+        return Err(Fault::NoRoom.at(0));
     }
     sweep(list, n, runs, true);
-    Answer::accepted(count as u32)
+    Ok(count as u32)
 }
 
 // The runs of the first n routes of a list that is known to be valid. Refuses 9, no room for them; else their
 // words, and their number. n routes have at most 2n+1 runs: with room for those, nothing is refused.
-pub(crate) fn write_runs(list: &[u32], n: usize, runs: &mut [u32]) -> Answer
+pub(crate) fn write_runs(list: &[u32], n: usize, runs: &mut [u32]) -> Result<u32, Refusal>
     requires { ValidList 32 (route_at list.now) n }
-    ensures { outcome result runs.new ≡ write_runs (listed 32 (route_at list.now) n) runs.old }
+    ensures { outcome (answered result) runs.new ≡ write_runs (listed 32 (route_at list.now) n) runs.old }
 {
     let room = runs.len() / RUN_SIZE;
     if 2 * n < room {
         let count = sweep(list, n, runs, true);
-        return Answer::accepted(count as u32);
+        return Ok(count as u32);
     }
     write_counted(list, n, runs)
 }

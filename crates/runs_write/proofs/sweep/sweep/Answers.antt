@@ -1,7 +1,6 @@
 use native.Mathlib.Omega.{arith}
 use borrow.Author.Rules.{rules}
 use mathlib.Core.Path.{refl, ap}
-use Prim.Native.Nat.{◌-◌}
 use Rattle.routes.specs.Routes.{route_at}
 use Rattle.routes.specs.declared.Route.{Route}
 use Rattle.runs_write.proofs.Turns.{sweeping_none, start_small, room_turn, turn_deep, turn_close, turn_room, turn_open, room_end, turn_end}

@@ -1,6 +1,5 @@
 use Rattle.table_rows.specs.Words.{row_at}
 use mathlib.Core.Bool.{true, false}
-use Prim.Native.Nat.{◌-◌}
 use native.Mathlib.Omega.{arith}
 use borrow.Author.Tests.{eq-eqb, ne_eqb}
 use Rattle.table_rules.proofs.Right.{child_lt}

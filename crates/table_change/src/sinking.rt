@@ -49,10 +49,8 @@ fn plan_for(x: Row, q: Route, left: u32) -> Plan
 fn add_leaf(rows: &mut [u32], n: u32, row: u32, plan: Plan)
     ensures { rows.new ≡ leaf_into five_words rows.old n row plan }
 {
-    let upper = plan.upper;
-    let lower = plan.lower;
-    store_row(rows, row, with_child(upper, plan.right, n));
-    store_row(rows, n, leaf_row(lower));
+    store_row(rows, row, with_child(plan.upper, plan.right, n));
+    store_row(rows, n, leaf_row(plan.lower));
 }
 
 // Whether the rows hold the route's prefix. A place that it would take itself has it nowhere below.

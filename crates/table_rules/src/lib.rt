@@ -3,7 +3,7 @@
 #![tactic(auto)]
 
 // A row of the table: a route, and the rows of its two children, 0 for none.
-#[derive(Clone, Copy)]
+#[derive(Clone, Copy, Debug, Default, PartialEq, Eq)]
 pub struct Row {
     pub value: u32,
     pub len: u32,
@@ -13,7 +13,7 @@ pub struct Row {
 }
 
 // What the check of good order has seen of a subtree: how many rows, and the value and length of the one that goes first.
-#[derive(Clone, Copy)]
+#[derive(Clone, Copy, Debug, PartialEq, Eq)]
 pub struct Seen {
     pub wrong: bool,
     pub rows: u64,

@@ -33,9 +33,6 @@ save_at-requires c = let a = c.args in
     let r = save_ready 32 (capacity ws) (row_at ws) a.n a.list.now (checked_good 32 (capacity ws) (row_at ws) a.n c.in_ok-check.ensures) c.if-n-eq0.false (row_count ws) (omega arith) (omega arith) in
     (r.0, omega (arith, r.1))
 
-pub shape_of-list : goal.shape_of-list
-shape_of-list c = c.save_at.auto.list
-
 pub returns : goal.returns
 returns c = let a = c.args in
     let ws = a.rows.now in

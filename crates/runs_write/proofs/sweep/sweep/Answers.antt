@@ -44,9 +44,6 @@ turn_to-last-requires c = room_turn 32 (route_at c.args.list.now) c.args.n c.arg
 pub end_run-requires : goal.end_run-requires
 end_run-requires c = room_end 32 (route_at c.args.list.now) c.args.n c.args.runs.now c.args.write c.loop-start.invariant c.requires.room c.if-stop-start.false c.if-n-i.true c.turn_to-last.ensures (search rules)
 
-pub shape_of-runs-then-n-i : goal.shape_of-runs-then-n-i
-shape_of-runs-then-n-i c = omega (arith, c.loop-start.invariant.counted.same)
-
 pub returns-then-n-i : goal.returns-then-n-i
 returns-then-n-i c = turn_end 32 (route_at c.args.list.now) c.args.n c.args.runs.now c.args.write c.loop-start.invariant c.requires.room c.if-stop-start.false c.if-n-i.true c.turn_to-last.ensures (search rules) c.end_run.ensures
 

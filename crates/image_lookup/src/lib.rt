@@ -81,6 +81,7 @@ fn child_of(next: Node, zeros: u32) -> Node
 
 // The walk down from the root, made by the compiler for each stride alone. No node has the number 0: the root's is 1, and distances are
 // only added to it.
+#[inline(always)]
 fn descend<const STRIDE: u32>(nodes: &[u32], ports: &[u16], address: u32) -> Result<Reached, Lost>
     requires { Stride STRIDE }
     ensures { found_of result ≡ lookup_words 32 STRIDE nodes.now ports.now address }

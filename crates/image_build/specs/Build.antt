@@ -1,14 +1,16 @@
 -- Defines what a build of the image answers and leaves: RULES, "The image", "Order of the checks" and "Refusals".
 -- Assumes nothing.
-use Rattle.std.specs.Prelude.{cond, ◌&&◌, List, ℕ, ◌/◌, eqb, leb, length}
+use Rattle.std.specs.Prelude.{cond, ◌&&◌, List, ℕ, ◌/◌, eqb, leb, length, Result, Ok, Err}
 use Rattle.promise.specs.Over.{over}
 use Rattle.trie.specs.Routes.{Route}
-use Rattle.refusals.specs.Refusals.{no_room, wrong_stride}
+use Rattle.refusals.specs.Refusals.{no_room, wrong_stride, number_of}
+use Rattle.refusals.specs.declared.Refusal.{Refusal}
 use Rattle.routes.specs.Routes.{route_at, route_count}
 use Rattle.routes.specs.Check.{list_check}
 use Rattle.image_rules.specs.Image.{image_paths, image_nodes, image_ports, routes_of}
 use Rattle.image_rules.specs.Lookup.{is_stride}
 use Rattle.image_build.specs.declared.Built.{Built}
+use Rattle.image_build.specs.declared.Written.{Written}
 
 -- what a build answers, and what it leaves in the two memories that it was lent to write
 pub record Left : Type 0 where
@@ -26,6 +28,11 @@ refused_build number place = record { number = number; place = place; nodes = 0;
 -- "0 | done | 0", with the nodes and the ports written
 abbrev pub done_build : ℕ → ℕ → Built
 done_build nodes ports = record { number = 0; place = 0; nodes = nodes; ports = ports }
+
+-- what a build's answer tells of it
+abbrev pub built_of : Result Written Refusal → Built
+built_of (Ok x) = done_build x.nodes x.ports
+built_of (Err r) = refused_build (number_of r.fault) r.place
 
 -- the routes of a list of words
 abbrev pub list_routes : ℕ → List ℕ → List Route

@@ -59,16 +59,15 @@ fn put_node(nodes: &mut [u32], at: Node, next: Node, f: Filled) -> Free
     ensures { (result ≡ free f.node.0 f.leaf.0)
         × (nodes.new ≡ store_nodes nodes.old at.0 (node_words f.bitmap (offset next.0 at.0))) }
 {
-    let node = f.node;
-    let leaf = f.leaf;
-    let distance = at.to(next);
-    let offset = distance.0 as u32;
     let words = NodeWords {
         bitmap: f.bitmap,
-        offset,
+        offset: at.to(next).0 as u32,
     };
     store_node(nodes, at, words);
-    Free { node, leaf }
+    Free {
+        node: f.node,
+        leaf: f.leaf,
+    }
 }
 
 // One slot: a leaf's port, after those that are still owed; or a node still to do.
@@ -88,23 +87,20 @@ fn fill_slot(
         × (nodes.new ≡ store_nodes nodes.old st.node.0 (flat pending (slot_children (slot_in (route_at list.now) y))))
         × ((k : ℕ) → k ≡ kept_after kept st.leaf.0 result.leaf.0 → owed ports.new k result.leaf.0 best ≡ sets (owed ports.old kept st.leaf.0 best) st.leaf.0 (slot_ports (slot_in (route_at list.now) y))) }
 {
-    let node = st.node;
-    let leaf = st.leaf;
     if goes_on(list, y) {
-        store_pending(nodes, node, y);
+        store_pending(nodes, st.node, y);
         return Filled {
             bitmap: st.bitmap * 2,
-            node: node.plus(Distance(1)),
-            leaf,
+            node: st.node.plus(Distance(1)),
+            ..st
         };
     }
-    let place = leaf.0;
-    fill(ports, kept, place, best as u16);
-    ports[place] = leaf_port(list, y) as u16;
+    fill(ports, kept, st.leaf.0, best as u16);
+    ports[st.leaf.0] = leaf_port(list, y) as u16;
     Filled {
         bitmap: st.bitmap * 2 + 1,
-        node,
-        leaf: leaf.after(1),
+        leaf: st.leaf.after(1),
+        ..st
     }
 }
 
@@ -113,13 +109,11 @@ fn skip_leaves(count: u32, st: Filled) -> Filled
     requires { (count ≤ most_slots) × (st.bitmap < 2 ^ most_slots) × (st.leaf.0 + count < 2 ^ 64) }
     ensures { result ≡ filled_leaves count st }
 {
-    let node = st.node;
-    let leaf = st.leaf;
     let bits = ((st.bitmap as u64 + 1) << count) - 1;
     Filled {
         bitmap: bits as u32,
-        node,
-        leaf: leaf.after(count as usize),
+        leaf: st.leaf.after(count as usize),
+        ..st
     }
 }
 
@@ -127,10 +121,7 @@ fn skip_leaves(count: u32, st: Filled) -> Filled
 fn kept_after(kept: usize, before: Leaf, after: Leaf) -> usize
     ensures { result ≡ kept_after kept before.0 after.0 }
 {
-    if before.0 == after.0 {
-        return kept;
-    }
-    after.0
+    if before == after { kept } else { after.0 }
 }
 
 // All slots of a node. The search for a slot's stretch resumes where that of the slot before ended. Leaves with the node's port are
@@ -155,15 +146,13 @@ fn fill_node(
 {
     let address = address_of(list, x);
     let depth = x.depth + stride;
-    let node = at.node;
-    let leaf = at.leaf;
     let mut j = 0;
     let mut search = search_from(list, x, x.lo, address, depth, slots);
-    let mut kept = leaf.0;
+    let mut kept = at.leaf.0;
     let mut st = Filled {
         bitmap: 0,
-        node,
-        leaf,
+        node: at.node,
+        leaf: at.leaf,
     };
     while j < slots {
         if j < search.clear {
@@ -174,13 +163,11 @@ fn fill_node(
         let y = find_slot(list, x, search, address, depth, j);
         let before = st.leaf;
         st = fill_slot(list, y, nodes, ports, kept, x.best, st);
-        let after = st.leaf;
-        kept = kept_after(kept, before, after);
+        kept = kept_after(kept, before, st.leaf);
         search = search_after(list, x, search.short, y, address, depth, slots);
         j += 1;
     }
-    let past = st.leaf;
-    fill(ports, kept, past.0, x.best as u16);
+    fill(ports, kept, st.leaf.0, x.best as u16);
     st
 }
 

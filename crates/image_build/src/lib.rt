@@ -2,18 +2,25 @@
 #![tactic(auto)]
 
 ghost use Rattle.std.specs.Prelude.{◌≡◌};
-ghost use Rattle.image_build.specs.Build.{left, refused_build, done_build, build_image};
+ghost use Rattle.image_build.specs.Build.{left, built_of, build_image};
 
 use fill::write_image;
 use image_count::count_nodes;
 use image_nodes::NODE_SIZE;
 use image_numbers::{is_stride, slots_of};
-use refusals::{NO_ROOM, WRONG_STRIDE};
+use refusals::{Fault, Refusal};
 use routes::{ROUTE_SIZE, check_list};
 
 mod fill;
 
-// What a build answers: the refusal's number and place, both 0 where it is done, and the nodes and ports written.
+// The nodes and the ports that a build has written.
+#[derive(Clone, Copy, Debug, PartialEq, Eq)]
+pub struct Written {
+    pub nodes: u32,
+    pub ports: u32,
+}
+
+// What C is told of a build: the refusal's number and place, both 0 where it is done, and the nodes and ports written.
 #[derive(Clone, Copy)]
 pub struct Built {
     pub number: u32,
@@ -22,52 +29,54 @@ pub struct Built {
     pub ports: u32,
 }
 
-impl Built {
-    fn refused(number: u32, place: u32) -> Self
-        ensures { result ≡ refused_build number place }
-    {
-        Self {
-            number,
-            place,
-            nodes: 0,
-            ports: 0,
-        }
-    }
+impl From<Result<Written, Refusal>> for Built {
+    ghost from_gives = { λ x built. built ≡ built_of x };
 
-    fn done(nodes: u32, ports: u32) -> Self
-        ensures { result ≡ done_build nodes ports }
-    {
-        Self {
-            number: 0,
-            place: 0,
-            nodes,
-            ports,
+    fn from(x: Result<Written, Refusal>) -> Built {
+        match x {
+            Ok(written) => Built {
+                number: 0,
+                place: 0,
+                nodes: written.nodes,
+                ports: written.ports,
+            },
+            Err(r) => Built {
+                number: u32::from(r.fault),
+                place: r.place,
+                nodes: 0,
+                ports: 0,
+            },
         }
     }
 }
 
 // The image of a list, written into the nodes and the ports lent. Refuses 12 at place 0, then as the check of the list does, then 9
 // at place 0 where the nodes or the ports do not fit. The nodes are counted first, so that a refusal writes nothing.
-pub fn build(stride: u32, list: &[u32], nodes: &mut [u32], ports: &mut [u16]) -> Built
-    ensures { left result nodes.new ports.new ≡ build_image 32 stride list.now nodes.old ports.old }
+pub fn build(
+    stride: u32,
+    list: &[u32],
+    nodes: &mut [u32],
+    ports: &mut [u16],
+) -> Result<Written, Refusal>
+    ensures { left (built_of result) nodes.new ports.new ≡ build_image 32 stride list.now nodes.old ports.old }
 {
-    if is_stride(stride) {
-        let checked = check_list(list);
-        if checked.number != 0 {
-            return Built::refused(checked.number, checked.place);
-        }
-        let n = list.len() / ROUTE_SIZE;
-        let slots = slots_of(stride);
-        let count = count_nodes(list, stride);
-        let leaves = count * (slots as usize - 1) + 1;
-        if nodes.len() < count * NODE_SIZE {
-            return Built::refused(NO_ROOM, 0);
-        }
-        if ports.len() < leaves {
-            return Built::refused(NO_ROOM, 0);
-        }
-        write_image(list, n, stride, slots, nodes, ports);
-        return Built::done(count as u32, leaves as u32);
+    if !is_stride(stride) {
+        return Err(Fault::WrongStride.at(0));
     }
-    Built::refused(WRONG_STRIDE, 0)
+    check_list(list)?;
+    let n = list.len() / ROUTE_SIZE;
+    let slots = slots_of(stride);
+    let count = count_nodes(list, stride);
+    let leaves = count * (slots as usize - 1) + 1;
+    if nodes.len() < count * NODE_SIZE {
+        return Err(Fault::NoRoom.at(0));
+    }
+    if ports.len() < leaves {
+        return Err(Fault::NoRoom.at(0));
+    }
+    write_image(list, n, stride, slots, nodes, ports);
+    Ok(Written {
+        nodes: count as u32,
+        ports: leaves as u32,
+    })
 }

@@ -4,31 +4,24 @@
 ghost use Rattle.std.specs.Prelude.{◌≡◌, ◌+◌, ◌-◌, ◌*◌, ◌%◌, ◌^◌, ◌<◌, ◌≤◌, ◌==◌};
 ghost use Rattle.bits.specs.Bitmap.{slot_bit, ones_before};
 ghost use Rattle.image_rules.specs.Lookup.{leaf_at, lookup_words};
-ghost use Rattle.refusals.specs.Refusals.{found, lost};
+ghost use Rattle.refusals.specs.Refusals.{found_of};
 ghost use Rattle.image_numbers.specs.Needs.{Stride};
 ghost use Rattle.image_lookup.specs.Needs.{most_slots_before, InSlots};
 
 use image_nodes::{bitmap_of, next_of, node_count};
 use image_numbers::{Distance, Leaf, Node, slots_of, wide};
-use refusals::found::Found;
-use refusals::{NOT_IN_ORDER, WRONG_STRIDE};
+use refusals::Fault;
+use refusals::found::{Lost, Reached};
 use routes::LAST_PORT;
 
 pub mod many;
-
-// A port as a word.
-fn word(x: u16) -> u32
-    ensures { result ≡ x }
-{
-    x as u32
-}
 
 // The number of ones in the slots before slot j: the count of ones of the bitmap's part before it.
 fn ones_before(slots: u32, bitmap: u32, j: u32) -> u32
     requires { InSlots slots bitmap j }
     ensures { result ≡ ones_before slots bitmap j }
 {
-    u32::count_ones(bitmap >> (slots - j))
+    (bitmap >> (slots - j)).count_ones()
 }
 
 fn is_leaf(slots: u32, bitmap: u32, j: u32) -> bool
@@ -39,18 +32,19 @@ fn is_leaf(slots: u32, bitmap: u32, j: u32) -> bool
 }
 
 // What leaf number `leaf` answers. Refuses 11 where it is past the ports lent or its port is above 4094.
-fn port_at(ports: &[u16], leaf: Leaf, reads: u32) -> Found
-    ensures { result ≡ leaf_at ports.now leaf.0 reads }
+fn port_at(ports: &[u16], leaf: Leaf, reads: u32) -> Result<Reached, Lost>
+    ensures { found_of result ≡ leaf_at ports.now leaf.0 reads }
 {
-    let at = leaf.0;
-    if ports.len() <= at {
-        return Found::lost(NOT_IN_ORDER, reads);
+    match ports.get(leaf.0) {
+        Some(port) if u32::from(*port) <= LAST_PORT => Ok(Reached {
+            port: u32::from(*port),
+            reads,
+        }),
+        _ => Err(Lost {
+            fault: Fault::NotInOrder,
+            reads,
+        }),
     }
-    let port = word(ports[at]);
-    if LAST_PORT < port {
-        return Found::lost(NOT_IN_ORDER, reads);
-    }
-    Found::found(port, reads)
 }
 
 // The slots of all nodes before this one.
@@ -66,7 +60,7 @@ fn slots_before(slots: u32, at: Node) -> usize
 fn children_before(next: Node) -> usize
     ensures { result ≡ (next.0 + 2 ^ 64 - 2) % 2 ^ 64 }
 {
-    std::num::wrapping_sub_usize(next.0, 2)
+    next.0.wrapping_sub(2)
 }
 
 // On a leaf: its number is the leaf base, all slots before the node but the children's, plus the ones before its slot.
@@ -85,32 +79,41 @@ fn child_of(next: Node, zeros: u32) -> Node
     next.plus(Distance(wide(zeros)))
 }
 
-// The walk down from the root. No node has the number 0: the root's is 1, and distances are only added to it.
-fn descend(stride: u32, nodes: &[u32], ports: &[u16], address: u32) -> Found
-    requires { Stride stride }
-    ensures { result ≡ lookup_words 32 stride nodes.now ports.now address }
+// The walk down from the root, made by the compiler for each stride alone. No node has the number 0: the root's is 1, and distances are
+// only added to it.
+#[inline(always)]
+fn descend<const STRIDE: u32>(nodes: &[u32], ports: &[u16], address: u32) -> Result<Reached, Lost>
+    requires { Stride STRIDE }
+    ensures { found_of result ≡ lookup_words 32 STRIDE nodes.now ports.now address }
 {
-    let slots = slots_of(stride);
-    let mut left = 32 / stride;
+    let slots = slots_of(STRIDE);
     let mut at = Node::ROOT;
     let mut reads = 0;
-    while 0 < left {
-        left -= 1;
+    for left in (0..32 / STRIDE).rev() {
         if node_count(nodes) < at.0 {
-            return Found::lost(NOT_IN_ORDER, reads);
+            return Err(Lost {
+                fault: Fault::NotInOrder,
+                reads,
+            });
         }
         reads += 1;
         let bitmap = bitmap_of(nodes, at);
         if bitmap >> slots != 0 {
-            return Found::lost(NOT_IN_ORDER, reads);
+            return Err(Lost {
+                fault: Fault::NotInOrder,
+                reads,
+            });
         }
         let next = next_of(nodes, at);
         let before = slots_before(slots, at);
         let children = children_before(next);
         if before < children {
-            return Found::lost(NOT_IN_ORDER, reads);
+            return Err(Lost {
+                fault: Fault::NotInOrder,
+                reads,
+            });
         }
-        let j = (address >> (stride * left)) % slots;
+        let j = (address >> (STRIDE * left)) % slots;
         let ones = ones_before(slots, bitmap, j);
         if is_leaf(slots, bitmap, j) {
             return port_at(ports, leaf_of(before, children, ones), reads);
@@ -118,44 +121,45 @@ fn descend(stride: u32, nodes: &[u32], ports: &[u16], address: u32) -> Found
         at = child_of(next, j - ones);
     }
     // A non-leaf at the last depth.
-    Found::lost(NOT_IN_ORDER, reads)
+    Err(Lost {
+        fault: Fault::NotInOrder,
+        reads,
+    })
 }
 
 // The lookup at stride 1. Refuses 11 at place 0, with the nodes read so far.
-pub fn lookup_1(nodes: &[u32], ports: &[u16], address: u32) -> Found
-    ensures { result ≡ lookup_words 32 1 nodes.now ports.now address }
+pub fn lookup_1(nodes: &[u32], ports: &[u16], address: u32) -> Result<Reached, Lost>
+    ensures { found_of result ≡ lookup_words 32 1 nodes.now ports.now address }
 {
-    descend(1, nodes, ports, address)
+    descend::<1>(nodes, ports, address)
 }
 
 // The lookup at stride 2. Refuses 11 at place 0, with the nodes read so far.
-pub fn lookup_2(nodes: &[u32], ports: &[u16], address: u32) -> Found
-    ensures { result ≡ lookup_words 32 2 nodes.now ports.now address }
+pub fn lookup_2(nodes: &[u32], ports: &[u16], address: u32) -> Result<Reached, Lost>
+    ensures { found_of result ≡ lookup_words 32 2 nodes.now ports.now address }
 {
-    descend(2, nodes, ports, address)
+    descend::<2>(nodes, ports, address)
 }
 
 // The lookup at stride 4. Refuses 11 at place 0, with the nodes read so far.
-pub fn lookup_4(nodes: &[u32], ports: &[u16], address: u32) -> Found
-    ensures { result ≡ lookup_words 32 4 nodes.now ports.now address }
+pub fn lookup_4(nodes: &[u32], ports: &[u16], address: u32) -> Result<Reached, Lost>
+    ensures { found_of result ≡ lookup_words 32 4 nodes.now ports.now address }
 {
-    descend(4, nodes, ports, address)
+    descend::<4>(nodes, ports, address)
 }
 
-// The port of an address and the nodes read. Refuses 12, then 11 with the nodes read so far, both at place 0. A stride that is a
-// constant lets the compiler make its walk for that stride alone; and it calls none of the three above, so that each walk has one
-// caller, in which the compiler unfolds it.
-pub fn lookup(stride: u32, nodes: &[u32], ports: &[u16], address: u32) -> Found
-    ensures { result ≡ lookup_words 32 stride nodes.now ports.now address }
+// The port of an address and the nodes read. Refuses 12, then 11 with the nodes read so far, both at place 0. It calls none of the three
+// above, so that each walk has one caller, in which the compiler unfolds it.
+pub fn lookup(stride: u32, nodes: &[u32], ports: &[u16], address: u32) -> Result<Reached, Lost>
+    ensures { found_of result ≡ lookup_words 32 stride nodes.now ports.now address }
 {
-    if stride == 1 {
-        return descend(1, nodes, ports, address);
+    match stride {
+        1 => descend::<1>(nodes, ports, address),
+        2 => descend::<2>(nodes, ports, address),
+        4 => descend::<4>(nodes, ports, address),
+        _ => Err(Lost {
+            fault: Fault::WrongStride,
+            reads: 0,
+        }),
     }
-    if stride == 2 {
-        return descend(2, nodes, ports, address);
-    }
-    if stride == 4 {
-        return descend(4, nodes, ports, address);
-    }
-    Found::lost(WRONG_STRIDE, 0)
 }

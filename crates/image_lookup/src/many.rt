@@ -8,21 +8,27 @@ ghost use Rattle.image_lookup.specs.Many.{many_words};
 
 use crate::descend;
 use many_rules::{UNFOUND, element_of, told};
-use refusals::{Answer, NO_ROOM, WRONG_STRIDE};
+use refusals::found::Found;
+use refusals::{Answer, Fault};
 
 // The lookups at a stride, which is a constant where this is called: the compiler then makes a loop for that stride alone, and unfolds the
 // walk in it.
-fn fill(stride: u32, nodes: &[u32], ports: &[u16], addresses: &[u32], out: &mut [u16]) -> Answer
-    requires { Stride stride }
-    ensures { outcome result out.new ≡ lookup_many (lookup_words 32 stride nodes.now ports.now) addresses.now out.old }
+fn fill<const STRIDE: u32>(
+    nodes: &[u32],
+    ports: &[u16],
+    addresses: &[u32],
+    out: &mut [u16],
+) -> Answer
+    requires { Stride STRIDE }
+    ensures { outcome result out.new ≡ lookup_many (lookup_words 32 STRIDE nodes.now ports.now) addresses.now out.old }
 {
     if out.len() < addresses.len() {
-        return Answer::refused(NO_ROOM, 0);
+        return Answer::refused(u32::from(Fault::NoRoom), 0);
     }
     let mut some = false;
     let mut i: usize = 0;
     while i < addresses.len() {
-        let element = element_of(descend(stride, nodes, ports, addresses[i]));
+        let element = element_of(Found::from(descend::<STRIDE>(nodes, ports, addresses[i])));
         some = (element == UNFOUND) | some;
         out[i] = element;
         i += 1;
@@ -42,13 +48,13 @@ pub fn lookup_many(
     ensures { outcome result out.new ≡ many_words 32 stride nodes.now ports.now addresses.now out.old }
 {
     if stride == 1 {
-        return fill(1, nodes, ports, addresses, out);
+        return fill::<1>(nodes, ports, addresses, out);
     }
     if stride == 2 {
-        return fill(2, nodes, ports, addresses, out);
+        return fill::<2>(nodes, ports, addresses, out);
     }
     if stride == 4 {
-        return fill(4, nodes, ports, addresses, out);
+        return fill::<4>(nodes, ports, addresses, out);
     }
-    Answer::refused(WRONG_STRIDE, 0)
+    Answer::refused(u32::from(Fault::WrongStride), 0)
 }

@@ -1,8 +1,8 @@
 // A node in the words lent: RULES, "Nodes". No other code knows where the words of a node are.
 #![tactic(auto)]
 
-ghost use Rattle.std.specs.Prelude.{◌≡◌, ◌^◌, ◌≤◌, ◌<◌};
-ghost use Rattle.image_rules.specs.Node.{node_count, node_start, bitmap_of, next_of, store_node};
+ghost use Rattle.std.specs.Prelude.{◌≡◌, ◌^◌, ◌≤◌, ◌<◌, MatchBool, false};
+ghost use Rattle.image_rules.specs.Node.{node_count, is_node, node_start, bitmap_of, next_of, store_node};
 ghost use Rattle.image_nodes.specs.Words.{node_at, words_of_node};
 ghost use Rattle.image_nodes.specs.Needs.{Lent};
 
@@ -12,7 +12,7 @@ use image_numbers::{Distance, Node, wide};
 pub const NODE_SIZE: usize = 2;
 
 // A node's words. A builder keeps a node that is still to be built in the same two.
-#[derive(Clone, Copy)]
+#[derive(Clone, Copy, Debug, Default, PartialEq, Eq)]
 pub struct NodeWords {
     pub bitmap: u32,
     pub offset: u32,
@@ -50,27 +50,25 @@ pub fn next_of(nodes: &[u32], at: Node) -> Node
     at.plus(Distance(wide(nodes[start_of(at) + 1])))
 }
 
+// Whether a node is lent whole.
+fn is_node(nodes: &[u32], at: Node) -> bool
+    ensures { MatchBool result (Lent nodes.now at.0) (is_node nodes.now at.0 ≡ false) }
+{
+    (0 < at.0) & (at.0 <= node_count(nodes))
+}
+
 // The words of a node; zeros where it is not lent whole.
 pub fn node_at(nodes: &[u32], at: Node) -> NodeWords
     ensures { result ≡ node_at nodes.now at.0 }
 {
-    let a = at.0;
-    if a == 0 {
-        return NodeWords {
-            bitmap: 0,
-            offset: 0,
-        };
-    }
-    if node_count(nodes) < a {
-        return NodeWords {
-            bitmap: 0,
-            offset: 0,
-        };
-    }
-    let start = start_of(at);
-    NodeWords {
-        bitmap: nodes[start],
-        offset: nodes[start + 1],
+    if is_node(nodes, at) {
+        let start = start_of(at);
+        NodeWords {
+            bitmap: nodes[start],
+            offset: nodes[start + 1],
+        }
+    } else {
+        NodeWords::default()
     }
 }
 
@@ -78,14 +76,9 @@ pub fn node_at(nodes: &[u32], at: Node) -> NodeWords
 pub fn store_node(nodes: &mut [u32], at: Node, x: NodeWords)
     ensures { nodes.new ≡ store_node nodes.old at.0 (words_of_node x) }
 {
-    let a = at.0;
-    if a == 0 {
-        return;
+    if is_node(nodes, at) {
+        let start = start_of(at);
+        nodes[start] = x.bitmap;
+        nodes[start + 1] = x.offset;
     }
-    if node_count(nodes) < a {
-        return;
-    }
-    let start = start_of(at);
-    nodes[start] = x.bitmap;
-    nodes[start + 1] = x.offset;
 }

@@ -1,5 +1,5 @@
 -- A stride's bounds, and its slots. Assumes nothing.
-use Rattle.std.proofs.Common.{◌≡◌, ℕ, zero, suc, ◌^◌, ◌<◌, ◌≤◌, true, false, ◌∙◌, arith, pow_pos, ne_eqb}
+use Rattle.std.proofs.Common.{◌≡◌, ℕ, zero, suc, ◌^◌, ◌<◌, ◌≤◌, true, ◌∙◌, arith, pow_pos, ne_eqb}
 use mathlib.Core.Bool.{false≢true}
 use Rattle.image_rules.specs.Lookup.{is_stride}
 use Rattle.image_numbers.specs.Slots.{slots_of}

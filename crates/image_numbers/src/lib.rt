@@ -6,15 +6,15 @@ ghost use Rattle.image_rules.specs.Lookup.{is_stride};
 ghost use Rattle.image_numbers.specs.Slots.{slots_of};
 
 // A node's number; nodes are numbered from 1.
-#[derive(Clone, Copy)]
+#[derive(Clone, Copy, Debug, PartialEq, Eq)]
 pub struct Node(pub usize);
 
 // From one node number to another.
-#[derive(Clone, Copy)]
+#[derive(Clone, Copy, Debug, PartialEq, Eq)]
 pub struct Distance(pub usize);
 
 // A leaf's number: the place of its port.
-#[derive(Clone, Copy)]
+#[derive(Clone, Copy, Debug, PartialEq, Eq)]
 pub struct Leaf(pub usize);
 
 impl Node {
@@ -26,17 +26,14 @@ impl Node {
     pub fn plus(self, distance: Distance) -> Node
         ensures { result.0 ≡ (self.0 + distance.0) % 2 ^ 64 }
     {
-        Node(std::num::wrapping_add_usize(self.0, distance.0))
+        Node(self.0.wrapping_add(distance.0))
     }
 
     // The distance to a later node; 0 to one that is not later.
     pub fn to(self, later: Node) -> Distance
         ensures { result.0 ≡ later.0 - self.0 }
     {
-        if later.0 <= self.0 {
-            return Distance(0);
-        }
-        Distance(later.0 - self.0)
+        Distance(later.0.saturating_sub(self.0))
     }
 }
 
@@ -45,7 +42,7 @@ impl Leaf {
     pub fn after(self, count: usize) -> Leaf
         ensures { result.0 ≡ (self.0 + count) % 2 ^ 64 }
     {
-        Leaf(std::num::wrapping_add_usize(self.0, count))
+        Leaf(self.0.wrapping_add(count))
     }
 }
 
@@ -60,21 +57,12 @@ pub fn wide(x: u32) -> usize
 pub fn is_stride(stride: u32) -> bool
     ensures { result ≡ is_stride stride }
 {
-    if stride == 1 {
-        return true;
-    }
-    if stride == 2 {
-        return true;
-    }
-    stride == 4
+    matches!(stride, 1 | 2 | 4)
 }
 
 // 2^stride, the slots of a node; 0 for what is no stride.
 pub fn slots_of(stride: u32) -> u32
     ensures { (result ≡ slots_of stride) × (result ≤ 16) }
 {
-    if is_stride(stride) {
-        return 1u32 << stride;
-    }
-    0
+    if is_stride(stride) { 1 << stride } else { 0 }
 }

@@ -13,7 +13,7 @@ use prefix::Prefix;
 use routes::{Route, route_at};
 
 // What a search has found: the route at which it ended, and the port of the last match that it passed.
-#[derive(Clone, Copy)]
+#[derive(Clone, Copy, Debug, PartialEq, Eq)]
 struct Sought {
     route: usize,
     port: u32,
@@ -21,7 +21,7 @@ struct Sought {
 
 // Where the search for a slot's stretch resumes: from `short` on a route may match the slot, the routes from `route` on may lie in it,
 // and the slots before `clear` are leaves with the node's port.
-#[derive(Clone, Copy)]
+#[derive(Clone, Copy, Debug, PartialEq, Eq)]
 pub struct Search {
     pub short: usize,
     pub route: usize,
@@ -32,15 +32,12 @@ pub struct Search {
 fn first_apart(list: &[u32], place: Prefix, lo: usize, hi: usize) -> usize
     ensures { result ≡ past (under 32 (route_at list.now) place.value place.len) (hi - lo) lo }
 {
-    let mut i = lo;
-    while i < hi {
-        if place.matches(route_at(list, i).value) {
-            i += 1;
-        } else {
+    for i in lo..hi {
+        if !place.matches(route_at(list, i).value) {
             return i;
         }
     }
-    i
+    lo.max(hi)
 }
 
 // A route's port, in half a word: a valid one fits.
@@ -66,10 +63,8 @@ fn last_match(list: &[u32], address: u32, best: u32, lo: usize, hi: usize) -> u3
     ensures { result ≡ last_from 32 (route_at list.now) address best lo (hi - lo) }
 {
     let mut port = best;
-    let mut i = lo;
-    while i < hi {
+    for i in lo..hi {
         port = port_if(route_at(list, i), address, port);
-        i += 1;
     }
     port
 }
@@ -79,18 +74,18 @@ fn last_match(list: &[u32], address: u32, best: u32, lo: usize, hi: usize) -> u3
 fn seek(list: &[u32], place: Prefix, lo: usize, hi: usize, best: u32) -> Sought
     ensures { result ≡ seek_from 32 (route_at list.now) place.value place.len best lo hi }
 {
-    let mut i = lo;
     let mut port = best;
-    while i < hi {
+    for i in lo..hi {
         let route = route_at(list, i);
-        if route.prefix().precedes(place) {
-            port = port_if(route, place.value, port);
-            i += 1;
-        } else {
+        if !route.prefix().precedes(place) {
             return Sought { route: i, port };
         }
+        port = port_if(route, place.value, port);
     }
-    Sought { route: i, port }
+    Sought {
+        route: lo.max(hi),
+        port,
+    }
 }
 
 // The stretch of the slot with the bits of a prefix, within its node's stretch x, and the port that it inherits. The search starts at
@@ -113,7 +108,7 @@ fn slot_stretch(list: &[u32], x: Stretch, short: usize, at: usize, place: Prefix
 fn bits_past(depth: u32) -> u32
     ensures { (result ≡ 32 - depth) × (result ≤ 32) }
 {
-    if depth < 32 { 32 - depth } else { 0 }
+    32u32.saturating_sub(depth)
 }
 
 // The first address of a node: that of any route in it. Only the root may have none.

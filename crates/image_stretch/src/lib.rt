@@ -7,7 +7,7 @@ use image_numbers::{Leaf, Node};
 pub const HALF_WORD: u32 = 65536;
 
 // A node still to do: the routes lo..hi of the list are those that begin with its bits; best is the port that it inherits.
-#[derive(Clone, Copy)]
+#[derive(Clone, Copy, Debug, PartialEq, Eq)]
 pub struct Stretch {
     pub lo: usize,
     pub hi: usize,
@@ -16,7 +16,7 @@ pub struct Stretch {
 }
 
 // A node's slots so far: its bitmap, and the first node and the first leaf that are then not in use.
-#[derive(Clone, Copy)]
+#[derive(Clone, Copy, Debug, PartialEq, Eq)]
 pub struct Filled {
     pub bitmap: u32,
     pub node: Node,
@@ -24,7 +24,7 @@ pub struct Filled {
 }
 
 // The first node and the first leaf that are not in use.
-#[derive(Clone, Copy)]
+#[derive(Clone, Copy, Debug, PartialEq, Eq)]
 pub struct Free {
     pub node: Node,
     pub leaf: Leaf,

@@ -10,20 +10,20 @@ use Rattle.image_count.proofs.count_all.Goals as goal
 
 pub loop-i-init : goal.loop-i-init
 loop-i-init c = let a = c.args in
-    (omega arith, sum_none (count_below 32 (route_at a.list.now) a.n a.stride (32 / a.stride - 1) a.stride) a.n)
+    sum_none (count_below 32 (route_at a.list.now) a.n a.stride (32 / a.stride - 1) a.stride) a.n
 
 pub overflow_add-count : goal.overflow_add-count
 overflow_add-count c = let a = c.args in
     let l = c.loop-i in
     let R = route_at a.list.now in
-    omega (arith, l.invariant.1, nodes_few_lem 32 R a.n a.stride (search rules), c.count_below-count.ensures, count_below_few 32 R a.n a.stride (32 / a.stride - 1) a.stride l.i, div-le_self 32 a.stride)
+    omega (arith, l.invariant, nodes_few_lem 32 R a.n a.stride (search rules), c.count_below-count.ensures, count_below_few 32 R a.n a.stride (32 / a.stride - 1) a.stride l.i, div-le_self 32 a.stride)
 
 pub loop-i-preserved : goal.loop-i-preserved
 loop-i-preserved c = let a = c.args in
     let l = c.loop-i in
-    (omega arith, sum_more (count_below 32 (route_at a.list.now) a.n a.stride (32 / a.stride - 1) a.stride) a.n l.i l.count c.count_below-count.result _ (search rules) c.count_below-count.ensures l.invariant.1)
+    sum_more (count_below 32 (route_at a.list.now) a.n a.stride (32 / a.stride - 1) a.stride) a.n l.i l.count c.count_below-count.result _ (search rules) c.count_below-count.ensures l.invariant
 
 pub returns : goal.returns
 returns c = let a = c.args in
     let l = c.loop-i in
-    sum_all (count_below 32 (route_at a.list.now) a.n a.stride (32 / a.stride - 1) a.stride) a.n l.i l.count _ (omega arith) l.invariant.1
+    sum_all (count_below 32 (route_at a.list.now) a.n a.stride (32 / a.stride - 1) a.stride) a.n l.i l.count _ (omega arith) l.invariant

@@ -14,6 +14,6 @@ pub returns-then-is_stride-n : goal.returns-then-is_stride-n
 returns-then-is_stride-n c = let a = c.args in
     c.count_all.ensures ∙ sym (counted_by_lem 32 a.list.now a.stride _ c.is_stride.ensures _ c.if-is_stride-n.true)
 
-pub returns : goal.returns
-returns c = let a = c.args in
+pub returns-else-is_stride-n : goal.returns-else-is_stride-n
+returns-else-is_stride-n c = let a = c.args in
     sym (counted_by_lem 32 a.list.now a.stride _ c.is_stride.ensures _ c.if-is_stride-n.false)

@@ -1,17 +1,12 @@
-use native.Mathlib.Omega.{arith}
-use Rattle.image_nodes.specs.Words.{node_at}
-use Rattle.image_nodes.proofs.Nodes.{lent_node, no_node_0, no_node_past}
+use Rattle.std.proofs.Common.{ap₂}
+use Rattle.image_nodes.specs.Words.{two_words, node_at}
+use Rattle.image_nodes.proofs.Nodes.{node_at_lent}
 use Rattle.image_nodes.proofs.node_at.Goals as goal
 
-pub returns-then-a-eq0 : goal.returns-then-a-eq0
-unfolding node_at
-returns-then-a-eq0 c = let a = c.args in rw (no_node_0 a.nodes.now a.at.0 c.if-a-eq0.true)
+pub returns-then-is_node : goal.returns-then-is_node
+returns-then-is_node c = let a = c.args in
+    rw (node_at_lent a.nodes.now a.at.0 c.if-is_node.ensures, c.start_of-start.ensures)
 
-pub returns-then-node_count-a : goal.returns-then-node_count-a
+pub returns-else-is_node : goal.returns-else-is_node
 unfolding node_at
-returns-then-node_count-a c = let a = c.args in rw (no_node_past a.nodes.now a.at.0 (omega (arith, c.node_count.ensures)))
-
-pub returns : goal.returns
-unfolding node_at
-returns c = let a = c.args in
-    rw (lent_node a.nodes.now a.at.0 (omega arith) (omega (arith, c.node_count.ensures)), c.start_of-start.ensures)
+returns-else-is_node c = rw c.if-is_node.ensures (ap₂ two_words c.default.ensures.0 c.default.ensures.1)

@@ -1,6 +1,5 @@
-use mathlib.Core.Path.{refl, sym, ◌∙◌}
+use mathlib.Core.Path.{◌≡◌, refl, sym, ◌∙◌}
 use mathlib.Core.Bool.{true, false}
-use Prim.Native.Nat.{◌-◌}
 use native.Mathlib.Omega.{arith}
 use Rattle.routes.specs.Routes.{route_at}
 use Rattle.image_stretch.specs.Stretches.{under}
@@ -9,19 +8,20 @@ use Rattle.image_search.proofs.SearchTests.{under_found}
 use Rattle.image_search.proofs.first_apart.Goals as goal
 
 pub loop-i-init : goal.loop-i-init
-loop-i-init c = refl
+loop-i-init c = (omega arith, refl)
 
 pub loop-i-preserved : goal.loop-i-preserved
 loop-i-preserved c = let a = c.args in
     let l = c.loop-i in
-    sym (past_more (under 32 (route_at a.list.now) a.place.value a.place.len) a.hi l.i (omega arith) (under_found (route_at a.list.now) l.i _ c.route_at.ensures 32 a.place.value a.place.len _ true c.matches.ensures c.if-matches.true)) ∙ l.invariant
+    (omega arith, sym (past_more (under 32 (route_at a.list.now) a.place.value a.place.len) a.hi l.i (omega arith) (under_found (route_at a.list.now) l.i _ c.route_at.ensures 32 a.place.value a.place.len _ true c.matches.ensures c.if-not-matches.false)) ∙ l.invariant.1)
 
-pub returns-else-matches : goal.returns-else-matches
-returns-else-matches c = let a = c.args in
+pub returns-then-not-matches : goal.returns-then-not-matches
+returns-then-not-matches c = let a = c.args in
     let l = c.loop-i in
-    sym (past_here (under 32 (route_at a.list.now) a.place.value a.place.len) a.hi l.i (omega arith) (under_found (route_at a.list.now) l.i _ c.route_at.ensures 32 a.place.value a.place.len _ false c.matches.ensures c.if-matches.false)) ∙ l.invariant
+    sym (past_here (under 32 (route_at a.list.now) a.place.value a.place.len) a.hi l.i (omega arith) (under_found (route_at a.list.now) l.i _ c.route_at.ensures 32 a.place.value a.place.len _ false c.matches.ensures c.if-not-matches.true)) ∙ l.invariant.1
 
 pub returns : goal.returns
 returns c = let a = c.args in
     let l = c.loop-i in
-    sym (past_all (under 32 (route_at a.list.now) a.place.value a.place.len) a.hi l.i (omega arith)) ∙ l.invariant
+    let end : c.max.result ≡ l.i = omega (arith, c.max.ensures) in
+    end ∙ sym (past_all (under 32 (route_at a.list.now) a.place.value a.place.len) a.hi l.i (omega arith)) ∙ l.invariant.1

@@ -9,14 +9,13 @@ use Rattle.image_search.proofs.last_match.Goals as goal
 
 pub loop-i-init : goal.loop-i-init
 loop-i-init c = let a = c.args in
-    (omega arith, omega arith, sym (last_from_none 32 (route_at a.list.now) a.address a.best a.lo (a.lo - a.lo) (omega arith)))
+    (omega arith, sym (last_from_none 32 (route_at a.list.now) a.address a.best a.lo (a.lo - a.lo) (omega arith)))
 
 pub loop-i-preserved : goal.loop-i-preserved
 loop-i-preserved c = let a = c.args in
     let l = c.loop-i in (
       omega arith,
-      omega arith,
-      last_from_more 32 (route_at a.list.now) a.address a.best a.lo l.i l.port c.port_if-port.result l.invariant.0 l.invariant.2
+      last_from_more 32 (route_at a.list.now) a.address a.best a.lo l.i l.port c.port_if-port.result l.auto.i l.invariant.1
           (port_found (route_at a.list.now) l.i _ c.route_at.ensures 32 a.address c.port_if-port.result l.port c.port_if-port.ensures),
     )
 
@@ -24,4 +23,4 @@ pub returns : goal.returns
 returns c = let a = c.args in
     let l = c.loop-i in
     let e : l.i - a.lo ≡ a.hi - a.lo = omega arith in
-    l.invariant.2 ∙ ap (λ (k : ℕ). last_from 32 (route_at a.list.now) a.address a.best a.lo k) e
+    l.invariant.1 ∙ ap (λ (k : ℕ). last_from 32 (route_at a.list.now) a.address a.best a.lo k) e

@@ -1,10 +1,11 @@
-use mathlib.Core.Path.{refl, sym, ◌∙◌}
+use mathlib.Core.Path.{◌≡◌, refl, sym, ap, ◌∙◌}
 use mathlib.Core.Bool.{true, false}
-use Prim.Native.Nat.{◌-◌}
+use Prim.Native.Nat.{ℕ, ◌-◌}
 use native.Mathlib.Omega.{arith}
 use Rattle.routes.specs.Routes.{route_at}
 use Rattle.image_stretch.specs.Stretches.{stands_before}
 use Rattle.image_stretch.proofs.FirstAndLast.{past_more, past_here, past_all, last_from_none, last_from_more}
+use Rattle.image_search.specs.Search.{sought}
 use Rattle.image_search.proofs.Found.{seek_is}
 use Rattle.image_search.proofs.SearchTests.{before_found, port_found}
 use Rattle.image_search.proofs.seek.Goals as goal
@@ -16,22 +17,23 @@ loop-i-init c = let a = c.args in
 pub loop-i-preserved : goal.loop-i-preserved
 loop-i-preserved c = let a = c.args in
     let l = c.loop-i in (
-      omega (arith, l.invariant.0),
-      sym (past_more (stands_before (route_at a.list.now) a.place.value a.place.len) a.hi l.i (omega arith) (before_found (route_at a.list.now) l.i _ c.route_at-route.ensures a.place.value a.place.len _ _ true c.prefix.ensures c.precedes.ensures c.if-precedes.true)) ∙ l.invariant.1,
-      last_from_more 32 (route_at a.list.now) a.place.value a.best a.lo l.i l.port c.port_if-port.result l.invariant.0 l.invariant.2
+      omega arith,
+      sym (past_more (stands_before (route_at a.list.now) a.place.value a.place.len) a.hi l.i (omega arith) (before_found (route_at a.list.now) l.i _ c.route_at-route.ensures a.place.value a.place.len _ _ true c.prefix.ensures c.precedes.ensures c.if-not-precedes.false)) ∙ l.invariant.1,
+      last_from_more 32 (route_at a.list.now) a.place.value a.best a.lo l.i l.port c.port_if-port.result l.auto.i l.invariant.2
           (port_found (route_at a.list.now) l.i _ c.route_at-route.ensures 32 a.place.value c.port_if-port.result l.port c.port_if-port.ensures),
     )
 
-pub returns-else-precedes : goal.returns-else-precedes
-returns-else-precedes c = let a = c.args in
+pub returns-then-not-precedes : goal.returns-then-not-precedes
+returns-then-not-precedes c = let a = c.args in
     let l = c.loop-i in
     seek_is 32 (route_at a.list.now) a.place.value a.place.len a.best a.lo a.hi l.i l.port
-    (sym (past_here (stands_before (route_at a.list.now) a.place.value a.place.len) a.hi l.i (omega arith) (before_found (route_at a.list.now) l.i _ c.route_at-route.ensures a.place.value a.place.len _ _ false c.prefix.ensures c.precedes.ensures c.if-precedes.false)) ∙ l.invariant.1)
+    (sym (past_here (stands_before (route_at a.list.now) a.place.value a.place.len) a.hi l.i (omega arith) (before_found (route_at a.list.now) l.i _ c.route_at-route.ensures a.place.value a.place.len _ _ false c.prefix.ensures c.precedes.ensures c.if-not-precedes.true)) ∙ l.invariant.1)
     l.invariant.2
 
 pub returns : goal.returns
 returns c = let a = c.args in
     let l = c.loop-i in
-    seek_is 32 (route_at a.list.now) a.place.value a.place.len a.best a.lo a.hi l.i l.port
+    let end : c.max.result ≡ l.i = omega (arith, c.max.ensures) in
+    ap (λ (r : ℕ). sought r l.port) end ∙ seek_is 32 (route_at a.list.now) a.place.value a.place.len a.best a.lo a.hi l.i l.port
     (sym (past_all (stands_before (route_at a.list.now) a.place.value a.place.len) a.hi l.i (omega arith)) ∙ l.invariant.1)
     l.invariant.2

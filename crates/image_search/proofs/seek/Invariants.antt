@@ -5,9 +5,6 @@ use Rattle.image_stretch.specs.Stretches.{past, last_from, stands_before}
 use Rattle.image_search.proofs.seek.Given as goal
 
 abbrev pub invariant-loop-i : goal.invariant-loop-i
-invariant-loop-i l = (l.lo ≤ l.i)
+invariant-loop-i l = (l.i - l.lo ≤ l.hi - l.lo)
     × (past (stands_before (route_at l.list) l.place.value l.place.len) (l.hi - l.i) l.i ≡ past (stands_before (route_at l.list) l.place.value l.place.len) (l.hi - l.lo) l.lo)
     × (l.port ≡ last_from 32 (route_at l.list) l.place.value l.best l.lo (l.i - l.lo))
-
-abbrev pub decreases-loop-i : goal.decreases-loop-i
-decreases-loop-i l = l.hi - l.i

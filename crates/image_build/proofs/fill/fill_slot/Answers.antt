@@ -35,8 +35,8 @@ returns-then-goes_on c = let a = c.args in
 pub overflow_cast-ports : goal.overflow_cast-ports
 overflow_cast-ports c = omega (arith, c.leaf_port.ensures, leaf_port_lt (route_at c.args.list.now) c.args.y c.requires.2.port_fits)
 
-pub bounds-ports-place : goal.bounds-ports-place
-bounds-ports-place c = let a = c.args in
+pub bounds-ports-st : goal.bounds-ports-st
+bounds-ports-st c = let a = c.args in
     let o = slot_ends (route_at a.list.now) a.y _ _ c.goes_on.ensures c.if-goes_on.false c.leaf_port.ensures in
     let n : length (slot_ports (slot_in (route_at a.list.now) a.y)) ≡ 1 = ap (λ (s : Slot Stretch). length (slot_ports s)) o in
     let q = c.fill.ensures ∙ filled_within a.ports.now a.kept a.st.leaf.0 a.best (omega (arith, c.requires.7)) in

@@ -21,4 +21,5 @@ returns c = simp (
   ne_eqb _ _ c.if-stride-eq2.false,
   ne_eqb _ _ c.if-stride-eq4.false,
   c.refused.ensures,
+  c.from.ensures,
 )

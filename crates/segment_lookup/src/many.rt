@@ -6,7 +6,8 @@ ghost use Rattle.many_rules.specs.Many.{element, lookup_many};
 
 use crate::{packed_read, plain_read, port_read, wide, word};
 use many_rules::{UNFOUND, element_of, told};
-use refusals::{Answer, NO_ROOM};
+use refusals::found::Found;
+use refusals::{Answer, Fault};
 use segment_rules::{FIRST_SIZE, PLAIN_POINTER, POINTER};
 
 // The element of an address, by its entry of the first table. The single lookup has the same three ways in a function of its own: what each
@@ -15,12 +16,12 @@ fn first_element(packed: &[u16], plain: &[u16], last: &[u16], entry: u32, addres
     ensures { result ≡ element (first_read packed.now plain.now last.now entry address) % 2 ^ 16 }
 {
     if entry < POINTER {
-        return element_of(port_read(entry, 1));
+        return element_of(Found::from(port_read(entry, 1)));
     }
     if entry < PLAIN_POINTER {
-        return element_of(packed_read(packed, last, entry - POINTER, address));
+        return element_of(Found::from(packed_read(packed, last, entry - POINTER, address)));
     }
-    element_of(plain_read(plain, last, entry - PLAIN_POINTER, address))
+    element_of(Found::from(plain_read(plain, last, entry - PLAIN_POINTER, address)))
 }
 
 // The element of an address.
@@ -47,7 +48,7 @@ pub fn lookup_many(
     ensures { outcome result out.new ≡ lookup_many (lookup_in first.now packed.now plain.now last.now) addresses.now out.old }
 {
     if out.len() < addresses.len() {
-        return Answer::refused(NO_ROOM, 0);
+        return Answer::refused(u32::from(Fault::NoRoom), 0);
     }
     let mut some = false;
     let mut i: usize = 0;

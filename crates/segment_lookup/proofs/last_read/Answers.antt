@@ -4,7 +4,7 @@ use Rattle.segment_lookup.proofs.last_read.Goals as goal
 
 pub returns-then-last-from : goal.returns-then-last-from
 unfolding last_read
-returns-then-last-from c = simp (lt-leb _ _ (rw c.wide-from.ensures.0 at c.if-last-from.true)) c.lost.ensures
+returns-then-last-from c = simp (lt-leb _ _ (rw c.wide-from.ensures.0 at c.if-last-from.true))
 
 pub returns : goal.returns
 unfolding last_read

@@ -1,8 +1,9 @@
 use mathlib.Core.Path.{refl, sym, ap, ◌∙◌}
-use Prim.Native.Nat.{◌-◌}
+use Prim.Native.Nat.{ℕ}
 use native.Mathlib.Omega.{arith}
 use lib.ListN.{get_or}
 use Rattle.promise.specs.Over.{outcome}
+use Rattle.refusals.specs.Refusals.{refused}
 use Rattle.refusals.specs.declared.Answer.{Answer}
 use Rattle.segment_rules.specs.Lookup.{lookup_in}
 use Rattle.segment_rules.proofs.Lent.{ports_le}
@@ -13,6 +14,7 @@ use Rattle.segment_lookup.proofs.many.lookup_many.Goals as goal
 pub returns-then-out-addresses : goal.returns-then-out-addresses
 returns-then-out-addresses c = let look = lookup_in c.args.first.now c.args.packed.now c.args.plain.now c.args.last.now in
     ap (λ (x : Answer). outcome x c.args.out.now) c.refused.ensures
+    ∙ ap (λ (m : ℕ). outcome (refused m 0) c.args.out.now) c.from.ensures
     ∙ sym (short_is_refused look c.args.addresses.now c.args.out.now c.if-out-addresses.true)
 
 pub loop-i-init : goal.loop-i-init

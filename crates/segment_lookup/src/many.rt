@@ -4,7 +4,7 @@ ghost use Rattle.promise.specs.Over.{outcome};
 ghost use Rattle.segment_rules.specs.Lookup.{first_read, lookup_in};
 ghost use Rattle.many_rules.specs.Many.{element, lookup_many};
 
-use crate::{packed_read, plain_read, port_read, wide, word};
+use crate::{packed_read, plain_read, port_read};
 use many_rules::{UNFOUND, element_of, told};
 use refusals::found::Found;
 use refusals::{Answer, Fault};
@@ -31,8 +31,8 @@ fn element_at(first: &[u16], packed: &[u16], plain: &[u16], last: &[u16], addres
     if first.len() < FIRST_SIZE {
         return UNFOUND;
     }
-    let at = wide(address / 65536);
-    first_element(packed, plain, last, word(first[at]), address)
+    let at = (address / 65536) as usize;
+    first_element(packed, plain, last, u32::from(first[at]), address)
 }
 
 // Looks each address up, and stores its port in its element of `out`, or 65,535 where the lookup is refused 11; the count answered is 1 if

@@ -4,7 +4,7 @@ use Rattle.segment_lookup.proofs.lookup.Goals as goal
 
 pub returns-then-first-lt-FIRST_SIZE : goal.returns-then-first-lt-FIRST_SIZE
 unfolding lookup_in
-returns-then-first-lt-FIRST_SIZE c = simp (lt-leb _ _ c.if-first-lt-FIRST_SIZE.true)
+returns-then-first-lt-FIRST_SIZE c = simp (lt-leb _ _ c.if-first-lt-FIRST_SIZE.true) c.lost.ensures
 
 pub returns : goal.returns
 unfolding lookup_in

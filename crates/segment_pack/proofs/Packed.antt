@@ -10,6 +10,7 @@ use lib.Count.{ones}
 use lib.ListN.{length, get_or, set, replicate, length-append, length-replicate, drop_of_length-le, get_or-append}
 use lib.Seq.{get_or-append-add, set-append_seam, append_snoc, set-get_or}
 use borrow.Author.Tests.{eq-eqb, ne_eqb, le-leb, lt-leb}
+use Rattle.std.proofs.lemmas.Grind.{same_number_lists}
 use Rattle.promise.specs.Over.{over}
 use Rattle.lists.specs.Below.{number_below}
 use Rattle.lists.specs.Numbered.{list_of, in_order}
@@ -21,7 +22,6 @@ use Rattle.entries.specs.Entries.{filled}
 use Rattle.entries.proofs.Filled.{filled_over}
 use Rattle.segment_rules.specs.Packed.{block_size, codewords, most_kept, packed_size, is_one, ones_below, eight_bits, codeword, kept, packed_block}
 use Rattle.segment_rules.proofs.Ranks.{ones_list_of, ones_before_list_of, value_list_of_lt, length_kept, kept_at, entry_same, ones_some}
-use Rattle.segment_pack.proofs.Codewords.{words_all}
 use Rattle.segment_pack.specs.declared.Codes.{Codes}
 use Rattle.segment_pack.specs.Pack.{codes_of, rank_of, pack_into, copy_into}
 use Rattle.segment_pack.specs.Needs.{packed_to, Coded}
@@ -218,15 +218,16 @@ module _ (entries block : List ℕ) where
     unfolding pack_into
     pack_done h = packed_all entries ∙ rw (eq-eqb (length block) packed_size sized, le-leb (ones_below entries block_size) most_kept (omega (arith, is)))
 
--- a plain block, entry by entry
+-- a plain block, which is the entries
 module _ (entries block : List ℕ) where
   pub copy_sized : (length block ≡ block_size → ⊥) → block ≡ copy_into entries block
   unfolding copy_into
   copy_sized n = rw (ne_eqb (length block) block_size n)
 
-  pub copy_all : (i : ℕ) (left : List ℕ) → length block ≡ block_size → i ≡ block_size → left ≡ over (list_of (λ j. get_or entries j 0) i 0) block
-      → left ≡ copy_into entries block
+  pub copy_all : length block ≡ block_size → length entries ≡ block_size → entries ≡ copy_into entries block
   unfolding copy_into
-  copy_all i left sized h e =
-      e ∙ ap (λ (k : ℕ). over (list_of (λ j. get_or entries j 0) k 0) block) h
-      ∙ words_all (λ j. get_or entries j 0) block block_size sized ∙ rw (eq-eqb (length block) block_size sized)
+  copy_all sized whole =
+      let f = λ (i : ℕ). get_or entries i 0 in
+      same_number_lists entries (list_of f block_size 0) (whole ∙ sym (length_list_of f block_size 0))
+      (λ k h. let z : 0 + k ≡ k = omega arith in sym (get_d_list_of f block_size 0 k 0 (omega (arith, h, whole)) ∙ ap f z))
+      ∙ rw (eq-eqb (length block) block_size sized)

@@ -15,19 +15,12 @@ use segment_rules::{BLOCK_SIZE, CODEWORDS, MOST_KEPT, PACKED_SIZE, ones_through}
 // The eight bits of each codeword, and the ones before them.
 #[derive(Clone, Copy)]
 struct Codes {
-    bits: [u16; 32],
-    bases: [u16; 32],
-}
-
-// An entry's own word as a number.
-fn wide(x: u16) -> u32
-    ensures { (result ≡ x) × (result < 65536) }
-{
-    x as u32
+    bits: [u16; CODEWORDS],
+    bases: [u16; CODEWORDS],
 }
 
 // The bit of an entry: 1 if it is the first, or differs from the one before.
-fn bit_of(entries: &[u16; 256], i: usize) -> u32
+fn bit_of(entries: &[u16; BLOCK_SIZE], i: usize) -> u32
     requires { i < 256 }
     ensures { (result ≡ cond (is_one entries.now i) 1 0) × (result ≤ 1) }
 {
@@ -42,46 +35,40 @@ fn bit_of(entries: &[u16; 256], i: usize) -> u32
 }
 
 // Whether a segment is packed: it has at most 64 ones.
-pub fn is_packed(entries: &[u16; 256]) -> bool
+pub fn is_packed(entries: &[u16; BLOCK_SIZE]) -> bool
     ensures { result ≡ is_packed entries.now }
 {
     let mut ones: u32 = 0;
-    let mut i = 0;
-    while i < BLOCK_SIZE {
+    for i in 0..BLOCK_SIZE {
         ones += bit_of(entries, i);
-        i += 1;
     }
     ones as usize <= MOST_KEPT
 }
 
 // The bits of the eight entries of codeword c, the first of them highest.
-fn eight_bits(entries: &[u16; 256], c: usize) -> u32
+fn eight_bits(entries: &[u16; BLOCK_SIZE], c: usize) -> u32
     requires { c < 32 }
     ensures { (result ≡ eight_bits entries.now c) × (result < 256) }
 {
     let mut bits = 0;
-    let mut j = 0;
-    while j < 8 {
+    for j in 0..8 {
         bits = bits * 2 + bit_of(entries, c * 8 + j);
-        j += 1;
     }
     bits
 }
 
 // The codewords of a segment.
-fn codes_of(entries: &[u16; 256]) -> Codes
+fn codes_of(entries: &[u16; BLOCK_SIZE]) -> Codes
     ensures { result ≡ codes_of entries.now }
 {
-    let mut bits = [0u16; 32];
-    let mut bases = [0u16; 32];
+    let mut bits = [0u16; CODEWORDS];
+    let mut bases = [0u16; CODEWORDS];
     let mut ones: u32 = 0;
-    let mut c = 0;
-    while c < CODEWORDS {
+    for c in 0..CODEWORDS {
         let eight = eight_bits(entries, c);
         bits[c] = eight as u16;
         bases[c] = ones as u16;
         ones += u32::count_ones(eight);
-        c += 1;
     }
     Codes { bits, bases }
 }
@@ -92,61 +79,54 @@ fn rank_of(codes: Codes, i: usize) -> usize
     ensures { (result ≡ rank_of codes i) × (result < 2 ^ 17) }
 {
     let c = i / 8;
-    (wide(codes.bases[c]) + ones_through(wide(codes.bits[c]), i as u32)) as usize
+    (u32::from(codes.bases[c]) + ones_through(u32::from(codes.bits[c]), i as u32)) as usize
 }
 
 // The codewords at the front of a block.
-fn put_codes(block: &mut [u16], entries: &[u16; 256], codes: Codes)
+fn put_codes(block: &mut [u16], entries: &[u16; BLOCK_SIZE], codes: Codes)
     requires { Coded entries.now codes × (length block.old ≡ packed_size) }
     ensures { block.new ≡ over (list_of (codeword entries.now) codewords 0) block.old }
 {
-    let mut c = 0;
-    while c < CODEWORDS {
+    for c in 0..CODEWORDS {
         block[c] = codes.bits[c] * 256 + codes.bases[c];
-        c += 1;
     }
 }
 
 // The entries of one codeword, each at its rank; one without a one of its own has the place, and the value, of the one before it.
-fn put_eight(block: &mut [u16], entries: &[u16; 256], codes: Codes, c: usize)
+fn put_eight(block: &mut [u16], entries: &[u16; BLOCK_SIZE], codes: Codes, c: usize)
     requires { Coded entries.now codes × (c < codewords) × (block.old ≡ packed_to entries.now (c * 8)) }
     ensures { block.new ≡ packed_to entries.now (c * 8 + 8) }
 {
-    let mut j = 0;
-    while j < 8 {
+    for j in 0..8 {
         let i = c * 8 + j;
         let rank = rank_of(codes, i);
         block[CODEWORDS + (rank - 1)] = entries[i];
-        j += 1;
     }
 }
 
 // The entries that have a one, after the codewords. A codeword without a one has none to keep.
-fn put_entries(block: &mut [u16], entries: &[u16; 256], codes: Codes)
+fn put_entries(block: &mut [u16], entries: &[u16; BLOCK_SIZE], codes: Codes)
     requires { Coded entries.now codes × (block.old ≡ packed_to entries.now 0) }
     ensures { block.new ≡ packed_to entries.now 256 }
 {
-    let mut c = 0;
-    while c < CODEWORDS {
-        let code = c;
-        c += 1;
-        if codes.bits[code] == 0 {
+    for c in 0..CODEWORDS {
+        if codes.bits[c] == 0 {
             continue;
         }
-        put_eight(block, entries, codes, code);
+        put_eight(block, entries, codes, c);
     }
 }
 
 // Packs a segment into a block of 96 words. A block of any other size, and any block where the segment has more than 64 ones, is left as
 // it is.
-pub fn pack(block: &mut [u16], entries: &[u16; 256])
+pub fn pack(block: &mut [u16], entries: &[u16; BLOCK_SIZE])
     ensures { block.new ≡ pack_into entries.now block.old }
 {
     if block.len() != PACKED_SIZE {
         return;
     }
     let codes = codes_of(entries);
-    if MOST_KEPT < rank_of(codes, 255) {
+    if MOST_KEPT < rank_of(codes, BLOCK_SIZE - 1) {
         return;
     }
     put_codes(block, entries, codes);
@@ -155,15 +135,11 @@ pub fn pack(block: &mut [u16], entries: &[u16; 256])
 }
 
 // Stores the entries of a segment in a plain block, of 256 words. A block of any other size is left as it is.
-pub fn copy(block: &mut [u16], entries: &[u16; 256])
+pub fn copy(block: &mut [u16], entries: &[u16; BLOCK_SIZE])
     ensures { block.new ≡ copy_into entries.now block.old }
 {
     if block.len() != BLOCK_SIZE {
         return;
     }
-    let mut i = 0;
-    while i < BLOCK_SIZE {
-        block[i] = entries[i];
-        i += 1;
-    }
+    block.copy_from_slice(entries);
 }

@@ -1,5 +1,4 @@
 use mathlib.Core.Path.{refl}
-use Prim.Native.Nat.{◌-◌}
 use native.Mathlib.Omega.{arith}
 use lib.Count.{ones-le}
 use Rattle.segment_pack.proofs.Codewords.{coded_none, coded_more, coded_all}

@@ -5,11 +5,11 @@ use mathlib.Core.List.{List}
 use Prim.Native.Nat.{ℕ, ◌+◌}
 use native.Mathlib.Omega.{arith}
 use lib.Dec.{eqb}
+use Rattle.std.proofs.Common.{Ok, Err}
 use borrow.Author.Tests.{ne_eqb}
 use Rattle.bits.specs.Prefix.{precedes}
 use Rattle.refusals.specs.Refusals.{refused}
 use Rattle.routes.specs.Routes.{route}
-use Rattle.refusals.specs.declared.Answer.{Answer}
 use Rattle.routes.proofs.Faults.{chain_fault, chain_rest}
 use Rattle.octets.specs.Octets.{prefix_bytes, prefix_size, len_at, prefix_at}
 use Rattle.file_rules.specs.File.{port_from, read_at, size_for}
@@ -17,7 +17,6 @@ use Rattle.file_rules.specs.Check.{frame_fault, content_fault, Entire}
 use Rattle.file_read.specs.Step.{fault_after, cursor_after, step_at}
 use Rattle.file_read.specs.declared.step.Cursor.{Cursor}
 use Rattle.routes.specs.declared.Route.{Route}
-use Rattle.file_read.specs.declared.step.Step.TheVariants.{Took, Refused}
 use Rattle.file_rules.proofs.Sound.{frame_fault_rest, frame_none}
 use Rattle.prefix.specs.Prefixes.{prefix}
 use Rattle.prefix.specs.declared.Prefix.{Prefix}
@@ -35,15 +34,15 @@ module _ (w : ℕ) (file : List ℕ) (at len : ℕ) (len_is : len ≡ len_at fil
       ∙ ap₂ (λ (q : Prefix) (n : ℕ). route q.value (len_at file at) n) p_is (port_is ∙ ap (port_from file) size_is)
 
 module _ (w : ℕ) (file : List ℕ) (c : Cursor) (frame : ℕ) (frame_is : frame ≡ frame_fault w file c.count c.at 0) where
-  refused_step : (m : ℕ) (a : Answer) → fault_after w file c ≡ m → (m ≡ 0 → ⊥) → a ≡ refused m c.at → Refused a ≡ step_at w file c
+  refused_step : (m : ℕ) → fault_after w file c ≡ m → (m ≡ 0 → ⊥) → Err (refused m c.at) ≡ step_at w file c
   unfolding step_at
-  refused_step m a e n a_is = ap Refused a_is ∙ sym (rw (e, ne_eqb m 0 n))
+  refused_step m e n = sym (rw (e, ne_eqb m 0 n))
 
   -- 8, 4, 3 (cut)
-  pub step_unframed : (a : Answer) → (frame ≡ 0 → ⊥) → a ≡ refused frame c.at → Refused a ≡ step_at w file c
+  pub step_unframed : (frame ≡ 0 → ⊥) → Err (refused frame c.at) ≡ step_at w file c
   unfolding fault_after
-  step_unframed a n =
-      refused_step frame a (chain_fault (frame_fault w file c.count c.at) (frame_fault_rest w file c.count c.at) frame frame_is _ n) n
+  step_unframed n =
+      refused_step frame (chain_fault (frame_fault w file c.count c.at) (frame_fault_rest w file c.count c.at) frame frame_is _ n) n
 
   module _ (framed : frame ≡ 0) where
     pub step_entire : Entire w file c.at
@@ -60,12 +59,12 @@ module _ (w : ℕ) (file : List ℕ) (c : Cursor) (frame : ℕ) (frame_is : fram
           ∙ ap (λ (y : Route). content_fault y (eqb c.count 0 || precedes c.past.value c.past.len y.value y.len)) x-is)
 
       -- 6, 7
-      pub step_faulty : (a : Answer) → (fault ≡ 0 → ⊥) → a ≡ refused fault c.at → Refused a ≡ step_at w file c
-      step_faulty a n = refused_step fault a fault_after_lem n
+      pub step_faulty : (fault ≡ 0 → ⊥) → Err (refused fault c.at) ≡ step_at w file c
+      step_faulty n = refused_step fault fault_after_lem n
 
       pub step_took : fault ≡ 0 → (k : ℕ) → k ≡ size_for x.len → (p : Prefix) → p ≡ prefix x.value x.len
-          → Took (record { at = c.at + k; count = c.count + 1; past = p }) ≡ step_at w file c
+          → Ok (record { at = c.at + k; count = c.count + 1; past = p }) ≡ step_at w file c
       unfolding step_at
       step_took z k k-is p p_is =
-          ap₂ (λ (j : ℕ) (q : Prefix). Took (record { at = c.at + j; count = c.count + 1; past = q })) k-is p_is
-          ∙ sym (rw (fault_after_lem ∙ z) (ap (λ (y : Route). Took (cursor_after c y)) (sym x-is)))
+          ap₂ (λ (j : ℕ) (q : Prefix). Ok (record { at = c.at + j; count = c.count + 1; past = q })) k-is p_is
+          ∙ sym (rw (fault_after_lem ∙ z) (ap (λ (y : Route). Ok (cursor_after c y)) (sym x-is)))

@@ -7,6 +7,7 @@ use Prim.Native.Nat.{ℕ, ◌+◌, ◌-◌, ◌*◌, ◌≤◌, ◌<◌}
 use native.Mathlib.Omega.{arith}
 use lib.Dec.{eqb}
 use lib.ListN.{length}
+use Rattle.std.proofs.Common.{Ok, Err}
 use borrow.Author.Count.{below_none, below_more}
 use borrow.Author.Tests.{eqb-true, eqb-false}
 use Rattle.bits.specs.Prefix.{precedes}
@@ -20,7 +21,6 @@ use Rattle.file_rules.specs.File.{head_size, size_for, read_at, place_of, file_r
 use Rattle.file_rules.specs.Check.{frame_fault, content_fault, file_fault, head_fault, file_check}
 use Rattle.file_read.specs.Step.{fault_after, cursor_after, step_at}
 use Rattle.file_read.specs.declared.step.Cursor.{Cursor}
-use Rattle.file_read.specs.declared.step.Step.TheVariants.{Took, Refused}
 use Rattle.file_rules.proofs.Sound.{place_more, place_le, fault_none}
 use Rattle.file_rules.proofs.Walk.{check_headed, check_from_lem, check_here, check_end}
 use Rattle.prefix.specs.Prefixes.{prefix}
@@ -51,44 +51,44 @@ module _ (w : ℕ) (file : List ℕ) (c : Cursor) (here : Reached w file c) wher
       (here.known (file_route w file c.count).value (file_route w file c.count).len))
 
   -- a route is taken exactly where it has no fault
-  took_sound : (next : Cursor) → step_at w file c ≡ Took next
+  took_sound : (next : Cursor) → step_at w file c ≡ Ok next
       → (file_fault w file c.count ≡ 0) × (next ≡ cursor_after c (file_route w file c.count))
   unfolding step_at
   took_sound next = go (way (eqb (fault_after w file c) 0))
     where
       go : (eqb (fault_after w file c) 0 ≡ true) ⊎ (eqb (fault_after w file c) 0 ≡ false)
-          → cond (eqb (fault_after w file c) 0) (Took (cursor_after c (read_at w file c.at))) (Refused (refused (fault_after w file c) c.at))
-          ≡ Took next
+          → cond (eqb (fault_after w file c) 0) (Ok (cursor_after c (read_at w file c.at))) (Err (refused (fault_after w file c) c.at))
+          ≡ Ok next
           → (file_fault w file c.count ≡ 0) × (next ≡ cursor_after c (file_route w file c.count))
       go (inl t) e =
-          let s : Took (cursor_after c (read_at w file c.at)) ≡ Took next = rw t at e in
+          let s : Ok (cursor_after c (read_at w file c.at)) ≡ Ok next = rw t at e in
           let n : next ≡ cursor_after c (read_at w file c.at) = cc in
           (sym fault_here ∙ eqb-true (fault_after w file c) 0 t, n ∙ ap (λ (p : ℕ). cursor_after c (read_at w file p)) here.at_place)
       go (inr t) e =
-          let s : Refused (refused (fault_after w file c) c.at) ≡ Took next = rw t at e in
+          let s : Err (refused (fault_after w file c) c.at) ≡ Ok next = rw t at e in
           let z : ◌≡◌ {A = ℕ} 0 1 = cc in
           absurd (omega arith)
 
-  refused_fault : (a : Answer) → step_at w file c ≡ Refused a
+  refused_fault : (a : Answer) → step_at w file c ≡ Err a
       → (a ≡ refused (file_fault w file c.count) (place_of file c.count)) × (file_fault w file c.count ≡ 0 → ⊥)
   unfolding step_at
   refused_fault a = go (way (eqb (fault_after w file c) 0))
     where
       go : (eqb (fault_after w file c) 0 ≡ true) ⊎ (eqb (fault_after w file c) 0 ≡ false)
-          → cond (eqb (fault_after w file c) 0) (Took (cursor_after c (read_at w file c.at))) (Refused (refused (fault_after w file c) c.at))
-          ≡ Refused a
+          → cond (eqb (fault_after w file c) 0) (Ok (cursor_after c (read_at w file c.at))) (Err (refused (fault_after w file c) c.at))
+          ≡ Err a
           → (a ≡ refused (file_fault w file c.count) (place_of file c.count)) × (file_fault w file c.count ≡ 0 → ⊥)
       go (inl t) e =
-          let s : Took (cursor_after c (read_at w file c.at)) ≡ Refused a = rw t at e in
+          let s : Ok (cursor_after c (read_at w file c.at)) ≡ Err a = rw t at e in
           let z : ◌≡◌ {A = ℕ} 0 1 = cc in
           absurd (omega arith)
       go (inr t) e =
-          let s : Refused (refused (fault_after w file c) c.at) ≡ Refused a = rw t at e in
+          let s : Err (refused (fault_after w file c) c.at) ≡ Err a = rw t at e in
           let same : a ≡ refused (fault_after w file c) c.at = cc in
           (same ∙ ap₂ refused fault_here here.at_place, λ z. eqb-false (fault_after w file c) 0 t (fault_here ∙ z))
 
   -- the cursor after a route that is taken
-  pub reached_more : (next : Cursor) → step_at w file c ≡ Took next → Reached w file next × (c.at < next.at)
+  pub reached_more : (next : Cursor) → step_at w file c ≡ Ok next → Reached w file next × (c.at < next.at)
   unfolding read_at
   reached_more next e = (rw t.1 reached, rw t.1 (omega arith))
     where
@@ -103,7 +103,7 @@ module _ (w : ℕ) (file : List ℕ) (c : Cursor) (here : Reached w file c) wher
         known = λ v l. let p : c.count + 1 - 1 ≡ c.count = omega arith in rw p;
       }
 
-  pub reached_refused : (a : Answer) → head_fault file ≡ 0 → c.at < length file → step_at w file c ≡ Refused a → a ≡ file_check w file
+  pub reached_refused : (a : Answer) → head_fault file ≡ 0 → c.at < length file → step_at w file c ≡ Err a → a ≡ file_check w file
   reached_refused a headed h e =
       let f = refused_fault a e in
       f.0 ∙ sym (check_headed w file headed ∙ check_from_lem w file c.count here.none

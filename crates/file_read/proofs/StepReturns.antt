@@ -1,20 +1,18 @@
 -- A route read at an offset, and the three answers of a step, from what the code has found. Assumes nothing.
 use mathlib.Core.Path.{◌≡◌, sym, ap, ap₂, ◌∙◌}
-use mathlib.Core.Bool.{Bool, ◌||◌}
+use mathlib.Core.Bool.{Bool}
 use mathlib.Core.List.{List}
 use Prim.Native.Nat.{ℕ, ◌+◌}
 use native.Mathlib.Omega.{arith}
-use lib.Dec.{eqb}
-use Rattle.std.proofs.Common.{Ok, Err}
+use Rattle.std.proofs.Common.{Some, Ok, Err}
 use borrow.Author.Tests.{ne_eqb}
-use Rattle.bits.specs.Prefix.{precedes}
 use Rattle.refusals.specs.Refusals.{refused}
 use Rattle.routes.specs.Routes.{route}
 use Rattle.routes.proofs.Faults.{chain_fault, chain_rest}
 use Rattle.octets.specs.Octets.{prefix_bytes, prefix_size, len_at, prefix_at}
 use Rattle.file_rules.specs.File.{port_from, read_at, size_for}
 use Rattle.file_rules.specs.Check.{frame_fault, content_fault, Entire}
-use Rattle.file_read.specs.Step.{fault_after, cursor_after, step_at}
+use Rattle.file_read.specs.Step.{rises, fault_after, cursor_after, step_at}
 use Rattle.file_read.specs.declared.step.Cursor.{Cursor}
 use Rattle.routes.specs.declared.Route.{Route}
 use Rattle.file_rules.proofs.Sound.{frame_fault_rest, frame_none}
@@ -48,23 +46,21 @@ module _ (w : ℕ) (file : List ℕ) (c : Cursor) (frame : ℕ) (frame_is : fram
     pub step_entire : Entire w file c.at
     step_entire = (frame_none w file c.count c.at 0 (sym frame_is ∙ framed)).1
 
-    module _ (x : Route) (x-is : x ≡ read_at w file c.at) (rises : Bool)
-        (rises-is : rises ≡ (eqb c.count 0 || precedes c.past.value c.past.len x.value x.len))
-        (fault : ℕ) (fault-is : fault ≡ content_fault x rises) where
+    module _ (x : Route) (x-is : x ≡ read_at w file c.at) (up : Bool) (up-is : up ≡ rises c.past x)
+        (fault : ℕ) (fault-is : fault ≡ content_fault x up) where
       fault_after_lem : fault_after w file c ≡ fault
       unfolding fault_after
       fault_after_lem =
           chain_rest (frame_fault w file c.count c.at) (frame_fault_rest w file c.count c.at) frame frame_is _ framed
-          ∙ sym (fault-is ∙ ap (content_fault x) rises-is
-          ∙ ap (λ (y : Route). content_fault y (eqb c.count 0 || precedes c.past.value c.past.len y.value y.len)) x-is)
+          ∙ sym (fault-is ∙ ap (content_fault x) up-is ∙ ap (λ (y : Route). content_fault y (rises c.past y)) x-is)
 
       -- 6, 7
       pub step_faulty : (fault ≡ 0 → ⊥) → Err (refused fault c.at) ≡ step_at w file c
       step_faulty n = refused_step fault fault_after_lem n
 
       pub step_took : fault ≡ 0 → (k : ℕ) → k ≡ size_for x.len → (p : Prefix) → p ≡ prefix x.value x.len
-          → Ok (record { at = c.at + k; count = c.count + 1; past = p }) ≡ step_at w file c
+          → Ok (record { at = c.at + k; count = c.count + 1; past = Some p }) ≡ step_at w file c
       unfolding step_at
       step_took z k k-is p p_is =
-          ap₂ (λ (j : ℕ) (q : Prefix). Ok (record { at = c.at + j; count = c.count + 1; past = q })) k-is p_is
+          ap₂ (λ (j : ℕ) (q : Prefix). Ok (record { at = c.at + j; count = c.count + 1; past = Some q })) k-is p_is
           ∙ sym (rw (fault_after_lem ∙ z) (ap (λ (y : Route). Ok (cursor_after c y)) (sym x-is)))

@@ -7,9 +7,9 @@ use Prim.Native.Nat.{ℕ, ◌+◌, ◌-◌, ◌*◌, ◌≤◌, ◌<◌}
 use native.Mathlib.Omega.{arith}
 use lib.Dec.{eqb}
 use lib.ListN.{length}
-use Rattle.std.proofs.Common.{Ok, Err}
+use Rattle.std.proofs.Common.{None, Ok, Err}
 use borrow.Author.Count.{below_none, below_more}
-use borrow.Author.Tests.{eqb-true, eqb-false}
+use borrow.Author.Tests.{ne_eqb, eqb-true, eqb-false}
 use Rattle.bits.specs.Prefix.{precedes}
 use Rattle.lists.proofs.Tests.{way}
 use Rattle.refusals.specs.Refusals.{refused, accepted}
@@ -19,25 +19,24 @@ use Rattle.routes.proofs.First.{NoneBelow}
 use Rattle.octets.specs.Octets.{len_at}
 use Rattle.file_rules.specs.File.{head_size, size_for, read_at, place_of, file_route}
 use Rattle.file_rules.specs.Check.{frame_fault, content_fault, file_fault, head_fault, file_check}
-use Rattle.file_read.specs.Step.{fault_after, cursor_after, step_at}
+use Rattle.file_read.specs.Step.{rises, fault_after, cursor_after, step_at}
+use Rattle.routes.specs.declared.Route.{Route}
 use Rattle.file_read.specs.declared.step.Cursor.{Cursor}
 use Rattle.file_rules.proofs.Sound.{place_more, place_le, fault_none}
 use Rattle.file_rules.proofs.Walk.{check_headed, check_from_lem, check_here, check_end}
-use Rattle.prefix.specs.Prefixes.{prefix}
 
 -- after (count) routes without a fault the cursor stands at the next one, and knows the prefix before it
 pub record Reached (w : ℕ) (file : List ℕ) (c : Cursor) : Type 0 where
   pub at_place : c.at ≡ place_of file c.count
   pub few : c.count ≤ most_routes
   pub none : NoneBelow (file_fault w file) c.count
-  pub known : (v l : ℕ)
-      → (eqb c.count 0 || precedes c.past.value c.past.len v l)
-      ≡ (eqb c.count 0 || precedes (file_route w file (c.count - 1)).value (file_route w file (c.count - 1)).len v l)
+  pub known : (r : Route)
+      → rises c.past r ≡ (eqb c.count 0 || precedes (file_route w file (c.count - 1)).value (file_route w file (c.count - 1)).len r.value r.len)
 
-pub reached_none : (w : ℕ) (file : List ℕ) → Reached w file (record { at = head_size; count = 0; past = prefix 0 0 })
+pub reached_none : (w : ℕ) (file : List ℕ) → Reached w file (record { at = head_size; count = 0; past = None })
 unfolding place_of
 reached_none w file =
-    record { at_place = refl; few = omega arith; none = below_none (λ j. file_fault w file j ≡ 0); known = λ v l. refl }
+    record { at_place = refl; few = omega arith; none = below_none (λ j. file_fault w file j ≡ 0); known = λ r. refl }
 
 module _ (w : ℕ) (file : List ℕ) (c : Cursor) (here : Reached w file c) where
   pub reached_small : c.at ≤ head_size + c.count * size_for w
@@ -48,7 +47,7 @@ module _ (w : ℕ) (file : List ℕ) (c : Cursor) (here : Reached w file c) wher
   fault_here =
       rw here.at_place
       (ap (λ (b : Bool). frame_fault w file c.count (place_of file c.count) (content_fault (read_at w file (place_of file c.count)) b))
-      (here.known (file_route w file c.count).value (file_route w file c.count).len))
+      (here.known (file_route w file c.count)))
 
   -- a route is taken exactly where it has no fault
   took_sound : (next : Cursor) → step_at w file c ≡ Ok next
@@ -100,7 +99,7 @@ module _ (w : ℕ) (file : List ℕ) (c : Cursor) (here : Reached w file c) wher
         at_place = ap (λ (p : ℕ). p + size_for (len_at file (place_of file c.count))) here.at_place ∙ sym (place_more file c.count);
         few = omega (arith, (fault_none w file c.count t.0).few);
         none = below_more (λ j. file_fault w file j ≡ 0) c.count here.none t.0;
-        known = λ v l. let p : c.count + 1 - 1 ≡ c.count = omega arith in rw p;
+        known = λ r. let p : c.count + 1 - 1 ≡ c.count = omega arith in rw (p, ne_eqb (c.count + 1) 0 (λ z. omega (arith, z)));
       }
 
   pub reached_refused : (a : Answer) → head_fault file ≡ 0 → c.at < length file → step_at w file c ≡ Err a → a ≡ file_check w file

@@ -12,7 +12,6 @@ ghost use Rattle.file_read.specs.Needs.{FitsList};
 
 use file_rules::{HEAD_SIZE, VERSION, route_size};
 use octets::number_at;
-use prefix::Prefix;
 use refusals::{Fault, Refusal};
 use routes::{ROUTE_SIZE, store_route};
 use step::{Cursor, read_at, step_at};
@@ -46,7 +45,7 @@ fn check_file(file: &[u8]) -> Result<u32, Refusal>
     let mut c = Cursor {
         at: HEAD_SIZE,
         count: 0,
-        past: Prefix::WHOLE,
+        past: None,
     };
     while c.at < file.len() {
         c = step_at(file, c)?;

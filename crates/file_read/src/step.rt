@@ -1,10 +1,9 @@
 // One step of the reader at a cursor: the cursor after the route, or the refusal with its place.
-ghost use Rattle.std.specs.Prelude.{◌≡◌, ◌||◌, ◌<◌, eqb, length};
-ghost use Rattle.bits.specs.Prefix.{precedes};
+ghost use Rattle.std.specs.Prelude.{◌≡◌, ◌<◌, length};
 ghost use Rattle.refusals.specs.Refusals.{fault_number};
 ghost use Rattle.file_rules.specs.File.{port_from, read_at};
 ghost use Rattle.file_rules.specs.Check.{frame_fault, content_fault, Entire};
-ghost use Rattle.file_read.specs.Step.{stepped, step_at};
+ghost use Rattle.file_read.specs.Step.{rises, stepped, step_at};
 ghost use Rattle.file_read.specs.Needs.{Standing};
 
 use file_rules::route_size;
@@ -13,12 +12,12 @@ use prefix::Prefix;
 use refusals::{Fault, Refusal};
 use routes::{MOST_ROUTES, Route, is_port};
 
-// Where the reader stands: the offset of the next route, its number from 0, and the prefix of the route before it.
+// Where the reader stands: the offset of the next route, its number from 0, and the prefix of the route before it, if there is one.
 #[derive(Clone, Copy)]
 pub struct Cursor {
     pub at: usize,
     pub count: usize,
-    pub past: Prefix,
+    pub past: Option<Prefix>,
 }
 
 // The port from its two bytes; those past the end are left out.
@@ -74,12 +73,14 @@ fn content_fault(route: Route, rises: bool) -> Result<(), Fault>
     }
 }
 
-// Whether a route is above the one before the cursor; the first is.
-fn rises_after(c: Cursor, r: Route) -> bool
-    ensures { result ≡ (eqb c.count 0 || precedes c.past.value c.past.len r.value r.len) }
+// Whether a route is above the one before it; the first is.
+fn rises_after(past: Option<Prefix>, r: Route) -> bool
+    ensures { result ≡ rises past r }
 {
-    let past = c.past;
-    (c.count == 0) | past.precedes(r.prefix())
+    match past {
+        Some(before) => before.precedes(r.prefix()),
+        None => true,
+    }
 }
 
 // The route at the cursor and the cursor after it, or its first fault at the offset of its first byte.
@@ -92,12 +93,12 @@ pub(crate) fn step_at(file: &[u8], c: Cursor) -> Result<Cursor, Refusal>
         return Err(fault.at(at as u32));
     }
     let r = read_at(file, at);
-    if let Err(fault) = content_fault(r, rises_after(c, r)) {
+    if let Err(fault) = content_fault(r, rises_after(c.past, r)) {
         return Err(fault.at(at as u32));
     }
     Ok(Cursor {
         at: at + route_size(r.len),
         count: c.count + 1,
-        past: r.prefix(),
+        past: Some(r.prefix()),
     })
 }

@@ -6,7 +6,6 @@ ghost use Rattle.many_rules.specs.Many.{element, lookup_many};
 
 use crate::{packed_read, plain_read, port_read};
 use many_rules::{UNFOUND, element_of, told};
-use refusals::found::Found;
 use refusals::{Answer, Fault};
 use segment_rules::{FIRST_SIZE, PLAIN_POINTER, POINTER};
 
@@ -16,12 +15,12 @@ fn first_element(packed: &[u16], plain: &[u16], last: &[u16], entry: u32, addres
     ensures { result ≡ element (first_read packed.now plain.now last.now entry address) % 2 ^ 16 }
 {
     if entry < POINTER {
-        return element_of(Found::from(port_read(entry, 1)));
+        return element_of(port_read(entry, 1));
     }
     if entry < PLAIN_POINTER {
-        return element_of(Found::from(packed_read(packed, last, entry - POINTER, address)));
+        return element_of(packed_read(packed, last, entry - POINTER, address));
     }
-    element_of(Found::from(plain_read(plain, last, entry - PLAIN_POINTER, address)))
+    element_of(plain_read(plain, last, entry - PLAIN_POINTER, address))
 }
 
 // The element of an address.
@@ -58,5 +57,5 @@ pub fn lookup_many(
         out[i] = element;
         i += 1;
     }
-    told(some)
+    Answer::accepted(told(some))
 }

@@ -1,12 +1,11 @@
 -- Any two results that a promise of this crate allows coincide, with the file that they leave. Assumes nothing.
-use mathlib.Core.Path.{sym, ap, ap₂, ◌∙◌}
+use mathlib.Core.Path.{sym, ◌∙◌}
 use Rattle.promise.specs.Determined.{Determined}
-use Rattle.promise.specs.Over.{Outcome, outcome}
-use Rattle.refusals.specs.declared.Answer.{Answer}
-use Rattle.refusals.proofs.Numbers.{answered_one}
+use Rattle.promise.specs.Over.{outcome}
+use Rattle.refusals.specs.Refusals.{answered}
+use Rattle.refusals.proofs.Numbers.{answered_one, told_one}
 use Rattle.file_write.proofs.write_file.Kinds as write_file_kinds
 use Rattle.file_write.proofs.write_file.Reads as write_file_reads
 
 write_file_unique : Determined 2 write_file_kinds.ps write_file_kinds.r write_file_reads.Post (λ κs x s. outcome x s.1.0.now)
-write_file_unique κs a x y s t p q = let e = p ∙ sym q in
-    ap₂ outcome (answered_one x y (ap (λ (o : Outcome Answer). o.answer) e)) (ap (λ (o : Outcome Answer). o.lent) e)
+write_file_unique κs a x y s t p q = told_one answered answered_one x y _ _ (p ∙ sym q)

@@ -11,7 +11,7 @@ ghost use Rattle.segment_build.specs.Needs.{PutLast, SegmentRoom, PutSegment, Se
 ghost use Rattle.segment_rules.specs.Build.{stores, tables_over};
 
 use crate::blocks::{begins_new, block_of};
-use crate::segments::{Walk, pointer_to, segment_at};
+use crate::segments::{Segment, Walk, pointer_to, segment_at};
 use routes::{ROUTE_SIZE, route_at};
 use segment_pack::{copy, pack};
 use segment_ports::fill_ports;
@@ -22,9 +22,7 @@ fn fill_first(first: &mut [u16], runs: &[u32])
     requires { first_size ≤ length first.old }
     ensures { first.new ≡ sets first.old 0 (list_of (λ b. port_from runs.now 0 (b * 65536)) first_size 0) }
 {
-    let start = 0;
-    let end = FIRST_SIZE;
-    fill_ports(&mut first[start..end], runs, 0, 0, 16);
+    fill_ports(&mut first[0..FIRST_SIZE], runs, 0, 0, 16);
 }
 
 // A packed block, at its number.
@@ -33,8 +31,7 @@ fn put_packed(packed: &mut [u16], number: usize, entries: &[u16; BLOCK_SIZE])
     ensures { packed.new ≡ sets packed.old (number * packed_size) (packed_block entries.now) }
 {
     let at = number * PACKED_SIZE;
-    let end = at + PACKED_SIZE;
-    pack(&mut packed[at..end], entries);
+    pack(&mut packed[at..at + PACKED_SIZE], entries);
 }
 
 // A plain block, at its number.
@@ -43,8 +40,7 @@ fn put_plain(plain: &mut [u16], number: usize, entries: &[u16; BLOCK_SIZE])
     ensures { plain.new ≡ sets plain.old (number * block_size) (list_of (λ i. get_or entries.now i 0) block_size 0) }
 {
     let at = number * BLOCK_SIZE;
-    let end = at + BLOCK_SIZE;
-    copy(&mut plain[at..end], entries);
+    copy(&mut plain[at..at + BLOCK_SIZE], entries);
 }
 
 // A last block, at its number, for the first 24 bits y; gives the run from which those of later blocks are sought.
@@ -53,29 +49,27 @@ fn put_last(last: &mut [u16], number: usize, runs: &[u32], run: usize, y: usize)
     ensures { PutLast runs.now run y result last.old number last.new }
 {
     let at = number * BLOCK_SIZE;
-    let end = at + BLOCK_SIZE;
-    fill_ports(&mut last[at..end], runs, run, y * BLOCK_SIZE, 0)
+    fill_ports(&mut last[at..at + BLOCK_SIZE], runs, run, y * BLOCK_SIZE, 0)
 }
 
-// Segment x, packed where it is tight: its block at its number, and what names it in the first table.
+// Segment x: its block at its number, and what names it in the first table.
 fn put_segment(
     first: &mut [u16],
     packed: &mut [u16],
     plain: &mut [u16],
     x: usize,
-    entries: &[u16; BLOCK_SIZE],
-    tight: bool,
+    s: &Segment,
     walk: Walk,
 )
-    requires { SegmentRoom first.old packed.old plain.old x entries.now tight walk }
-    ensures { PutSegment first.old packed.old plain.old x entries.now tight walk first.new packed.new plain.new }
+    requires { SegmentRoom first.old packed.old plain.old x s.now.entries s.now.packed walk }
+    ensures { PutSegment first.old packed.old plain.old x s.now.entries s.now.packed walk first.new packed.new plain.new }
 {
-    if tight {
-        put_packed(packed, walk.packed, entries);
+    if s.packed {
+        put_packed(packed, walk.packed, &s.entries);
         first[x] = pointer_to(POINTER, walk.packed);
         return;
     }
-    put_plain(plain, walk.plain, entries);
+    put_plain(plain, walk.plain, &s.entries);
     first[x] = pointer_to(PLAIN_POINTER, walk.plain);
 }
 
@@ -98,7 +92,7 @@ fn fill_segments(
         }
         let x = block_of(route, 16);
         let s = segment_at(list, runs, i, x, walk);
-        put_segment(first, packed, plain, x, &s.entries, s.packed, walk);
+        put_segment(first, packed, plain, x, &s, walk);
         walk = s.after;
     }
 }

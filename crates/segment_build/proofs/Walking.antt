@@ -93,8 +93,9 @@ module _ (R : ℕ → Route) (n : ℕ) where
     }
 
     -- at the end
-    pub counted_all : n ≤ i → Passed 32 R n 16 n w.next → Counted R n w
-    counted_all h p =
+    pub counted_all : i ≡ n → Counted R n w
+    counted_all e =
+        let p : Passed 32 R n 16 n w.next = rw e at st.passed in
         let none : (x : ℕ) → w.next ≤ x → x < 2 ^ 16 → has_segment R n x ≡ false = λ x u v. none_after 32 R n 16 ok w.next p x u in
         record {
           packed_are = st.packed_are ∙ sym (none_packed w.next (2 ^ 16) st.low none);
@@ -216,8 +217,5 @@ module _ (R : ℕ → Route) (n : ℕ) (runs : List ℕ) (i : ℕ) (w : Walk) (r
   pub goes_by : Ready R n runs → Walked R n runs i w → new ≡ false → Walked R n runs (i + 1) w
   goes_by ready st f = walked_on R n runs i w ready st (sym new_is ∙ f)
 
-pub walked_end : (R : ℕ → Route) (n : ℕ) (runs : List ℕ) (i : ℕ) (w : Walk) → Walked R n runs i w → i ≤ n → n ≤ i → Walked R n runs n w
-walked_end R n runs i w st h k = let e : i ≡ n = omega arith in rw e at st
-
-pub counted_end : (R : ℕ → Route) (n : ℕ) (runs : List ℕ) (i : ℕ) (w : Walk) → Ready R n runs → Walked R n runs i w → i ≤ n → n ≤ i → Counted R n w
-counted_end R n runs i w ready st h k = counted_all R n runs i w ready st k (walked_end R n runs i w st h k).passed
+pub walked_end : (R : ℕ → Route) (n : ℕ) (runs : List ℕ) (i : ℕ) (w : Walk) → Walked R n runs i w → i ≡ n → Walked R n runs n w
+walked_end R n runs i w st e = rw e at st

@@ -4,9 +4,9 @@ ghost use Rattle.promise.specs.Over.{outcome};
 ghost use Rattle.segment_rules.specs.Lookup.{first_read, lookup_in};
 ghost use Rattle.many_rules.specs.Many.{element, lookup_many};
 
-use crate::{packed_read, plain_read, port_read, wide, word};
+use crate::{packed_read, plain_read, port_read};
 use many_rules::{UNFOUND, element_of, told};
-use refusals::{Answer, NO_ROOM};
+use refusals::{Answer, Fault};
 use segment_rules::{FIRST_SIZE, PLAIN_POINTER, POINTER};
 
 // The element of an address, by its entry of the first table. The single lookup has the same three ways in a function of its own: what each
@@ -30,8 +30,8 @@ fn element_at(first: &[u16], packed: &[u16], plain: &[u16], last: &[u16], addres
     if first.len() < FIRST_SIZE {
         return UNFOUND;
     }
-    let at = wide(address / 65536);
-    first_element(packed, plain, last, word(first[at]), address)
+    let at = (address / 65536) as usize;
+    first_element(packed, plain, last, u32::from(first[at]), address)
 }
 
 // Looks each address up, and stores its port in its element of `out`, or 65,535 where the lookup is refused 11; the count answered is 1 if
@@ -47,7 +47,7 @@ pub fn lookup_many(
     ensures { outcome result out.new ≡ lookup_many (lookup_in first.now packed.now plain.now last.now) addresses.now out.old }
 {
     if out.len() < addresses.len() {
-        return Answer::refused(NO_ROOM, 0);
+        return Answer::refused(u32::from(Fault::NoRoom), 0);
     }
     let mut some = false;
     let mut i: usize = 0;
@@ -57,5 +57,5 @@ pub fn lookup_many(
         out[i] = element;
         i += 1;
     }
-    told(some)
+    Answer::accepted(told(some))
 }

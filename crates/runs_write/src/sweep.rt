@@ -65,19 +65,14 @@ fn turn_to(runs: &mut [u32], run: OpenRun, port: u32, write: bool) -> OpenRun
     ensures { Turned runs.old write run port result runs.new }
 {
     if (run.next == 0) | (port == run.port) {
-        return OpenRun {
-            first: run.first,
-            next: run.next,
-            port,
-            count: run.count,
-        };
+        return OpenRun { port, ..run };
     }
     let count = end_run(runs, run.count, run.first, run.next - 1, run.port, write);
     OpenRun {
         first: run.next,
-        next: run.next,
         port,
         count,
+        ..run
     }
 }
 
@@ -91,10 +86,9 @@ fn go_on(runs: &mut [u32], run: OpenRun, to: u32, port: u32, write: bool) -> Ope
     }
     let turned = turn_to(runs, run, port, write);
     OpenRun {
-        first: turned.first,
         next: to,
         port,
-        count: turned.count,
+        ..turned
     }
 }
 

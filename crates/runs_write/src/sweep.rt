@@ -27,6 +27,13 @@ struct OpenRun {
     count: usize,
 }
 
+// A route that is open at the present address: its last address, and its port.
+#[derive(Clone, Copy)]
+struct OpenRoute {
+    end: u32,
+    port: u32,
+}
+
 // Where route i begins; past the n routes, the last of all addresses.
 fn start_of(list: &[u32], n: usize, i: usize) -> u32
     ensures { result ≡ start_of 32 (route_at list.now) n i }
@@ -58,19 +65,14 @@ fn turn_to(runs: &mut [u32], run: OpenRun, port: u32, write: bool) -> OpenRun
     ensures { Turned runs.old write run port result runs.new }
 {
     if (run.next == 0) | (port == run.port) {
-        return OpenRun {
-            first: run.first,
-            next: run.next,
-            port,
-            count: run.count,
-        };
+        return OpenRun { port, ..run };
     }
     let count = end_run(runs, run.count, run.first, run.next - 1, run.port, write);
     OpenRun {
         first: run.next,
-        next: run.next,
         port,
         count,
+        ..run
     }
 }
 
@@ -84,10 +86,9 @@ fn go_on(runs: &mut [u32], run: OpenRun, to: u32, port: u32, write: bool) -> Ope
     }
     let turned = turn_to(runs, run, port, write);
     OpenRun {
-        first: turned.first,
         next: to,
         port,
-        count: turned.count,
+        ..turned
     }
 }
 
@@ -97,8 +98,11 @@ fn sweep(list: &[u32], n: usize, runs: &mut [u32], write: bool) -> usize
     requires { Sweepable 32 (route_at list.now) n runs.old write }
     ensures { Swept (listed 32 (route_at list.now) n) write result runs.old runs.new }
 {
-    let mut ends = [LAST_ADDRESS; STACK_SIZE];
-    let mut ports = [0u32; STACK_SIZE];
+    let whole = OpenRoute {
+        end: LAST_ADDRESS,
+        port: 0,
+    };
+    let mut stack = [whole; STACK_SIZE];
     let mut depth: usize = 0;
     let mut run = OpenRun {
         first: 0,
@@ -109,8 +113,7 @@ fn sweep(list: &[u32], n: usize, runs: &mut [u32], write: bool) -> usize
     let mut i: usize = 0;
     let mut start = start_of(list, n, 0);
     loop {
-        let stop = ends[depth];
-        let port = ports[depth];
+        let OpenRoute { end: stop, port } = stack[depth];
         if stop < start {
             run = go_on(runs, run, stop + 1, port, write);
             depth -= 1;
@@ -123,8 +126,10 @@ fn sweep(list: &[u32], n: usize, runs: &mut [u32], write: bool) -> usize
         run = go_on(runs, run, start, port, write);
         let route = route_at(list, i);
         depth += 1;
-        ends[depth] = route.prefix().last();
-        ports[depth] = route.port;
+        stack[depth] = OpenRoute {
+            end: route.prefix().last(),
+            port: route.port,
+        };
         i += 1;
         start = start_of(list, n, i);
     }

@@ -120,8 +120,10 @@ pub fn is_good(rows: &[u32], n: u32) -> bool
     if n == 0 {
         return true;
     }
-    let seen = seen_at(rows, n, Prefix::WHOLE, 0);
-    !seen.wrong & (seen.rows == n as u64)
+    match seen_at(rows, n, Prefix::WHOLE, 0) {
+        Some(seen) => seen.rows == n as u64,
+        None => false,
+    }
 }
 
 // Checks that a table of n rows is in good order. Refuses 11, at place 0, exactly where it is not.

@@ -10,7 +10,7 @@ returns-in_err-check_list c = let p = err_from_is_err_and c.from_residual.result
     rw (p.1, p.2) (list_runs_checked 32 c.args.list.now c.in_err-check_list.ensures _ (number_ne0 _))
 
 pub write_runs-requires : goal.write_runs-requires
-write_runs-requires c = list_runs_valid 32 c.args.list.now c.in_ok-check_list.ensures (λ i. omega (arith, c.shared_slice_known-1.given i)) refl
+write_runs-requires c = list_runs_valid 32 c.args.list.now c.in_ok-check_list.ensures (λ i. omega (arith, c.type_inv.list i)) refl
 
 pub returns : goal.returns
 returns c = list_runs_listed 32 c.args.list.now c.in_ok-check_list.ensures _ refl c.write_runs.ensures

@@ -1,5 +1,3 @@
-use mathlib.Core.Path.{◌≡◌, ◌∙◌}
-use Prim.Native.Nat.{◌+◌, ◌-◌, ◌<◌}
 use native.Mathlib.Omega.{arith}
 use Rattle.table_lookup.proofs.Search.{lookup_past, lookup_none, lookup_starts, lookup_ends, to_wrong, to_ends, to_stop, to_next}
 use Rattle.table_lookup.proofs.lookup.Goals as goal

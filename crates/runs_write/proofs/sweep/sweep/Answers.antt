@@ -7,19 +7,16 @@ use Rattle.runs_write.proofs.Turns.{sweeping_none, start_small, room_turn, turn_
 use Rattle.runs_write.proofs.sweep.sweep.Goals as goal
 
 pub loop-start-init : goal.loop-start-init
-loop-start-init c = sweeping_none 32 (route_at c.args.list.now) c.args.n c.args.runs.now c.args.write _ _ c.requires.valid refl refl refl refl c.start_of-start.ensures
+loop-start-init c = sweeping_none 32 (route_at c.args.list.now) c.args.n c.args.runs.now c.args.write _ c.requires.valid refl refl c.start_of-start.ensures
 
-pub offset_bounds-ends-depth : goal.offset_bounds-ends-depth
-offset_bounds-ends-depth c = omega (arith, c.loop-start.invariant.opened.deep)
+pub offset_bounds-stack-depth : goal.offset_bounds-stack-depth
+offset_bounds-stack-depth c = omega (arith, c.loop-start.invariant.opened.deep)
 
-pub bounds-ends-depth : goal.bounds-ends-depth
-bounds-ends-depth c = omega (arith, c.loop-start.invariant.opened.deep)
+pub bounds-stack-depth : goal.bounds-stack-depth
+bounds-stack-depth c = omega (arith, c.loop-start.invariant.opened.deep)
 
-pub offset_bounds-ports-depth : goal.offset_bounds-ports-depth
-offset_bounds-ports-depth c = omega (arith, c.loop-start.invariant.opened.deep)
-
-pub bounds-ports-depth : goal.bounds-ports-depth
-bounds-ports-depth c = omega (arith, c.loop-start.invariant.opened.deep)
+pub bounds-stack-depth-in-loop-start : goal.bounds-stack-depth-in-loop-start
+bounds-stack-depth-in-loop-start c = omega (arith, c.loop-start.invariant.opened.deep)
 
 -- the innermost open route ends before the next begins
 pub overflow_add-stop : goal.overflow_add-stop
@@ -54,17 +51,11 @@ go_on-run-requires-in-loop-start c = room_turn 32 (route_at c.args.list.now) c.a
 pub overflow_add-depth : goal.overflow_add-depth
 overflow_add-depth c = omega (arith, c.loop-start.invariant.opened.deep)
 
-pub offset_bounds-ends-depth-in-loop-start : goal.offset_bounds-ends-depth-in-loop-start
-offset_bounds-ends-depth-in-loop-start c = omega (arith, c.loop-start.invariant.opened.deep)
+pub offset_bounds-stack-depth-in-loop-start : goal.offset_bounds-stack-depth-in-loop-start
+offset_bounds-stack-depth-in-loop-start c = omega (arith, c.loop-start.invariant.opened.deep)
 
-pub bounds-ends-depth-in-loop-start : goal.bounds-ends-depth-in-loop-start
-bounds-ends-depth-in-loop-start c = omega (arith, turn_room 32 (route_at c.args.list.now) c.args.n c.args.runs.now c.args.write c.loop-start.invariant c.requires.room c.if-stop-start.false c.if-n-i.false)
-
-pub offset_bounds-ports-depth-in-loop-start : goal.offset_bounds-ports-depth-in-loop-start
-offset_bounds-ports-depth-in-loop-start c = offset_bounds-ends-depth-in-loop-start c
-
-pub bounds-ports-depth-in-loop-start : goal.bounds-ports-depth-in-loop-start
-bounds-ports-depth-in-loop-start c = bounds-ends-depth-in-loop-start c
+pub bounds-stack-depth-in-loop-start-2 : goal.bounds-stack-depth-in-loop-start-2
+bounds-stack-depth-in-loop-start-2 c = omega (arith, turn_room 32 (route_at c.args.list.now) c.args.n c.args.runs.now c.args.write c.loop-start.invariant c.requires.room c.if-stop-start.false c.if-n-i.false)
 
 pub loop-start-smaller : goal.loop-start-smaller
 loop-start-smaller c = omega arith

@@ -79,8 +79,8 @@ fn child_of(next: Node, zeros: u32) -> Node
     next.plus(Distance(wide(zeros)))
 }
 
-// The walk down from the root, made by the compiler for each stride alone. No node has the number 0: the root's is 1, and distances are
-// only added to it.
+// The walk down from the root. The stride is a constant, so that the compiler makes a walk for each stride alone, and unfolds it where it
+// is called. No node has the number 0: the root's is 1, and distances are only added to it.
 #[inline(always)]
 fn descend<const STRIDE: u32>(nodes: &[u32], ports: &[u16], address: u32) -> Result<Reached, Lost>
     requires { Stride STRIDE }
@@ -90,6 +90,8 @@ fn descend<const STRIDE: u32>(nodes: &[u32], ports: &[u16], address: u32) -> Res
     let mut at = Node::ROOT;
     let mut reads = 0;
     for left in (0..32 / STRIDE).rev() {
+        // First of all, so that it does not wait for the node's words.
+        let j = (address >> (STRIDE * left)) % slots;
         if node_count(nodes) < at.0 {
             return Err(Lost {
                 fault: Fault::NotInOrder,
@@ -113,7 +115,6 @@ fn descend<const STRIDE: u32>(nodes: &[u32], ports: &[u16], address: u32) -> Res
                 reads,
             });
         }
-        let j = (address >> (STRIDE * left)) % slots;
         let ones = ones_before(slots, bitmap, j);
         if is_leaf(slots, bitmap, j) {
             return port_at(ports, leaf_of(before, children, ones), reads);
@@ -148,8 +149,7 @@ pub fn lookup_4(nodes: &[u32], ports: &[u16], address: u32) -> Result<Reached, L
     descend::<4>(nodes, ports, address)
 }
 
-// The port of an address and the nodes read. Refuses 12, then 11 with the nodes read so far, both at place 0. It calls none of the three
-// above, so that each walk has one caller, in which the compiler unfolds it.
+// The port of an address and the nodes read. Refuses 12, then 11 with the nodes read so far, both at place 0.
 pub fn lookup(stride: u32, nodes: &[u32], ports: &[u16], address: u32) -> Result<Reached, Lost>
     ensures { found_of result ≡ lookup_words 32 stride nodes.now ports.now address }
 {

@@ -25,6 +25,9 @@ shr-some→le n b f = let g : b < 2 ^ n → ⊥ = λ h. f (div-eq_of_lt h) in om
 pub ones-le : (n b j ones : ℕ) → ones ≡ ones_before n b j → j < n → b / 2 ^ n ≡ 0 → ones ≤ j
 ones-le n b j ones e h z = rw e (ones_before_le n b j (omega arith) (shr-zero→lt n b z))
 
+pub ones_few : (n b j ones : ℕ) → ones ≡ ones_before n b j → j < n → b / 2 ^ n ≡ 0 → n ≤ 16 → ones ≤ 16
+ones_few n b j ones e h z few = omega (arith, ones-le n b j ones e h z)
+
 -- one comparison does for two: children wrap past all slots where next is below 2
 counted_based : (before next children : ℕ) → before ≤ most_slots_before → next < 2 ^ 62 → children ≡ (next + 2 ^ 64 - 2) % 2 ^ 64
     → (leb 2 next && leb (next - 2) before) ≡ leb children before

@@ -4,7 +4,7 @@
 ghost use Rattle.std.specs.Prelude.{◌≡◌, ◌+◌, ◌-◌, ◌*◌, ◌%◌, ◌^◌, ◌<◌, ◌≤◌, ◌==◌};
 ghost use Rattle.bits.specs.Bitmap.{slot_bit, ones_before};
 ghost use Rattle.image_rules.specs.Lookup.{leaf_at, lookup_words};
-ghost use Rattle.refusals.specs.Refusals.{found_of};
+ghost use Rattle.refusals.specs.Refusals.{not_in_order, lost, found_of};
 ghost use Rattle.image_numbers.specs.Needs.{Stride};
 ghost use Rattle.image_lookup.specs.Needs.{most_slots_before, InSlots};
 
@@ -31,6 +31,16 @@ fn is_leaf(slots: u32, bitmap: u32, j: u32) -> bool
     (bitmap >> (slots - 1 - j)) % 2 == 1
 }
 
+// A refusal of what is lent, with the nodes read so far.
+fn not_in_order(reads: u32) -> Result<Reached, Lost>
+    ensures { found_of result ≡ lost not_in_order reads }
+{
+    Err(Lost {
+        fault: Fault::NotInOrder,
+        reads,
+    })
+}
+
 // What leaf number `leaf` answers. Refuses 11 where it is past the ports lent or its port is above 4094.
 fn port_at(ports: &[u16], leaf: Leaf, reads: u32) -> Result<Reached, Lost>
     ensures { found_of result ≡ leaf_at ports.now leaf.0 reads }
@@ -40,10 +50,7 @@ fn port_at(ports: &[u16], leaf: Leaf, reads: u32) -> Result<Reached, Lost>
             port: u32::from(*port),
             reads,
         }),
-        _ => Err(Lost {
-            fault: Fault::NotInOrder,
-            reads,
-        }),
+        _ => not_in_order(reads),
     }
 }
 
@@ -79,8 +86,8 @@ fn child_of(next: Node, zeros: u32) -> Node
     next.plus(Distance(wide(zeros)))
 }
 
-// The walk down from the root, made by the compiler for each stride alone. No node has the number 0: the root's is 1, and distances are
-// only added to it.
+// The walk down from the root. The stride is a constant, so that the compiler makes a walk for each stride alone, and unfolds it where it
+// is called. No node has the number 0: the root's is 1, and distances are only added to it.
 #[inline(always)]
 fn descend<const STRIDE: u32>(nodes: &[u32], ports: &[u16], address: u32) -> Result<Reached, Lost>
     requires { Stride STRIDE }
@@ -90,30 +97,22 @@ fn descend<const STRIDE: u32>(nodes: &[u32], ports: &[u16], address: u32) -> Res
     let mut at = Node::ROOT;
     let mut reads = 0;
     for left in (0..32 / STRIDE).rev() {
+        // First of all, so that it does not wait for the node's words.
+        let j = (address >> (STRIDE * left)) % slots;
         if node_count(nodes) < at.0 {
-            return Err(Lost {
-                fault: Fault::NotInOrder,
-                reads,
-            });
+            return not_in_order(reads);
         }
         reads += 1;
         let bitmap = bitmap_of(nodes, at);
         if bitmap >> slots != 0 {
-            return Err(Lost {
-                fault: Fault::NotInOrder,
-                reads,
-            });
+            return not_in_order(reads);
         }
         let next = next_of(nodes, at);
         let before = slots_before(slots, at);
         let children = children_before(next);
         if before < children {
-            return Err(Lost {
-                fault: Fault::NotInOrder,
-                reads,
-            });
+            return not_in_order(reads);
         }
-        let j = (address >> (STRIDE * left)) % slots;
         let ones = ones_before(slots, bitmap, j);
         if is_leaf(slots, bitmap, j) {
             return port_at(ports, leaf_of(before, children, ones), reads);
@@ -121,10 +120,7 @@ fn descend<const STRIDE: u32>(nodes: &[u32], ports: &[u16], address: u32) -> Res
         at = child_of(next, j - ones);
     }
     // A non-leaf at the last depth.
-    Err(Lost {
-        fault: Fault::NotInOrder,
-        reads,
-    })
+    not_in_order(reads)
 }
 
 // The lookup at stride 1. Refuses 11 at place 0, with the nodes read so far.
@@ -148,8 +144,7 @@ pub fn lookup_4(nodes: &[u32], ports: &[u16], address: u32) -> Result<Reached, L
     descend::<4>(nodes, ports, address)
 }
 
-// The port of an address and the nodes read. Refuses 12, then 11 with the nodes read so far, both at place 0. It calls none of the three
-// above, so that each walk has one caller, in which the compiler unfolds it.
+// The port of an address and the nodes read. Refuses 12, then 11 with the nodes read so far, both at place 0.
 pub fn lookup(stride: u32, nodes: &[u32], ports: &[u16], address: u32) -> Result<Reached, Lost>
     ensures { found_of result ≡ lookup_words 32 stride nodes.now ports.now address }
 {

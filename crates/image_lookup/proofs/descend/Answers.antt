@@ -1,5 +1,5 @@
 use Rattle.image_numbers.proofs.Slots.{slots_found, slots_pos}
-use Rattle.image_lookup.proofs.Turns.{going_none, going_more, stride_off, turn_outside, turn_wide, turn_unbased, turn_leaf, turn_child, turn_none, shr-zero→lt, ones-le}
+use Rattle.image_lookup.proofs.Turns.{going_none, going_more, stride_off, turn_outside, turn_wide, turn_unbased, turn_leaf, turn_child, turn_none, shr-zero→lt, ones-le, ones_few}
 use Rattle.std.proofs.Common.{sym, refl, ◌∙◌, mod-lt, arith, rules}
 use Rattle.image_lookup.proofs.descend.Goals as goal
 
@@ -12,9 +12,10 @@ returns-then-node_count-at g c = let x = c.args in
     let q = c.requires in
     let l = c.loop-left in
     let n = c.slots_of-slots in
-    sym (l.invariant.same
+    c.not_in_order.ensures
+    ∙ (sym (l.invariant.same
     ∙ turn_outside g.row.STRIDE n.result (slots_found n.ensures.0 q) x.nodes.now x.ports.now x.address l.at.0 l.reads l.left
-    c.loop-left-test.true (omega (arith, c.node_count.ensures, c.if-node_count-at.true)))
+    c.loop-left-test.true (omega (arith, c.node_count.ensures, c.if-node_count-at.true))))
 
 pub returns-then-bitmap-slots-ne0 : goal.returns-then-bitmap-slots-ne0
 returns-then-bitmap-slots-ne0 g c = let x = c.args in
@@ -22,10 +23,11 @@ returns-then-bitmap-slots-ne0 g c = let x = c.args in
     let l = c.loop-left in
     let n = c.slots_of-slots in
     let b = c.bitmap_of-bitmap in
-    sym (l.invariant.same
+    c.not_in_order-then-bitmap-slots-ne0.ensures
+    ∙ (sym (l.invariant.same
     ∙ turn_wide g.row.STRIDE n.result (slots_found n.ensures.0 q) x.nodes.now x.ports.now x.address l.at.0 l.reads
     (record { positive = l.invariant.positive; within = search rules }) b.result b.ensures l.left
-    c.loop-left-test.true c.if-bitmap-slots-ne0.true)
+    c.loop-left-test.true c.if-bitmap-slots-ne0.true))
 
 pub slots_before-before-requires : goal.slots_before-before-requires
 slots_before-before-requires g c = (c.slots_of-slots.ensures.1, c.loop-left.invariant.positive, search rules)
@@ -39,11 +41,12 @@ returns-then-before-children g c = let x = c.args in
     let nx = c.next_of-next in
     let sb = c.slots_before-before in
     let cb = c.children_before-children in
-    sym (l.invariant.same
+    c.not_in_order-then-before-children.ensures
+    ∙ (sym (l.invariant.same
     ∙ turn_unbased g.row.STRIDE n.result (slots_found n.ensures.0 q) x.nodes.now x.ports.now x.address l.at.0 l.reads
     (record { positive = l.invariant.positive; within = search rules }) b.result b.ensures nx.result.0 sb.result cb.result
     (record { next_is = nx.ensures.0; low = nx.ensures.1; before_is = sb.ensures.0; few = sb.ensures.1; children_are = cb.ensures })
-    l.left c.loop-left-test.true c.if-before-children.true)
+    l.left c.loop-left-test.true c.if-before-children.true))
 
 pub overflow_mul-j : goal.overflow_mul-j
 overflow_mul-j g c = let x = c.args in
@@ -68,8 +71,7 @@ pub leaf_of-requires : goal.leaf_of-requires
 leaf_of-requires g c = let n = c.slots_of-slots in
     let sb = c.slots_before-before in
     let o = c.ones_before-ones in
-    let within = mod-lt _ (slots_pos n.ensures.0 c.requires) in
-    (c.if-before-children.false, sb.ensures.1, omega (arith, ones-le _ _ _ o.result o.ensures within c.if-bitmap-slots-ne0.false, within, n.ensures.1))
+    (c.if-before-children.false, sb.ensures.1, ones_few _ _ _ o.result o.ensures (mod-lt _ (slots_pos n.ensures.0 c.requires)) c.if-bitmap-slots-ne0.false n.ensures.1)
 
 pub returns-then-is_leaf : goal.returns-then-is_leaf
 returns-then-is_leaf g c = let x = c.args in
@@ -123,5 +125,6 @@ loop-left-preserved g c = let x = c.args in
 pub returns : goal.returns
 returns g c = let x = c.args in
     let l = c.loop-left in
-    sym (l.invariant.same
-    ∙ turn_none g.row.STRIDE x.nodes.now x.ports.now x.address l.left l.at.0 l.reads c.loop-left-test.false)
+    c.not_in_order-2.ensures
+    ∙ (sym (l.invariant.same
+    ∙ turn_none g.row.STRIDE x.nodes.now x.ports.now x.address l.left l.at.0 l.reads c.loop-left-test.false))

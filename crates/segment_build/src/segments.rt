@@ -1,8 +1,8 @@
 // The segments of a list, one after the other: their entries, their numbers, and the last blocks that they name.
-ghost use Rattle.std.specs.Prelude.{◌≡◌, ◌+◌, ◌*◌, ◌≤◌, ◌<◌};
+ghost use Rattle.std.specs.Prelude.{◌≡◌, ◌+◌, ◌*◌, ◌≤◌, ◌<◌, MatchOption};
 ghost use Rattle.routes.specs.Routes.{route_at, route_count};
 ghost use Rattle.segment_build.specs.Walks.{walk_after};
-ghost use Rattle.segment_build.specs.Needs.{Ready, Begun, Pointed, Met, SegmentMet, Counted};
+ghost use Rattle.segment_build.specs.Needs.{Ready, Begun, Pointed, Walked, Met, SegmentMet, NextSegment, Counted};
 
 use crate::blocks::{begins_new, block_of};
 use routes::{ROUTE_SIZE, route_at};
@@ -32,12 +32,14 @@ impl Walk {
     };
 }
 
-// A segment that is met: its entries, whether they are packed, and the pass after it.
+// A segment that is met: its number, its entries, whether they are packed, and the pass after it, from route `from` on.
 #[derive(Clone, Copy)]
 pub(crate) struct Segment {
+    pub x: usize,
     pub entries: [u16; BLOCK_SIZE],
     pub packed: bool,
     pub after: Walk,
+    pub from: usize,
 }
 
 // The entry that names a block, by what pointers begin with and its number.
@@ -102,7 +104,7 @@ fn walk_after(walk: Walk, x: usize, packed: bool, last: usize, run: usize) -> Wa
 }
 
 // Segment x, which route i is the first of the list to begin with and go on after.
-pub(crate) fn segment_at(list: &[u32], runs: &[u32], i: usize, x: usize, walk: Walk) -> Segment
+fn segment_at(list: &[u32], runs: &[u32], i: usize, x: usize, walk: Walk) -> Segment
     requires { Met (route_at list.now) (route_count list.now) runs.now i x walk }
     ensures { SegmentMet (route_at list.now) (route_count list.now) runs.now i x walk result }
 {
@@ -112,10 +114,26 @@ pub(crate) fn segment_at(list: &[u32], runs: &[u32], i: usize, x: usize, walk: W
     let packed = is_packed(&entries);
     let after = walk_after(walk, x, packed, last, run);
     Segment {
+        x,
         entries,
         packed,
         after,
+        from: i + 1,
     }
+}
+
+// The next segment, by the routes from number `from` on.
+pub(crate) fn next_segment(list: &[u32], runs: &[u32], from: usize, walk: Walk) -> Option<Segment>
+    requires { Ready (route_at list.now) (route_count list.now) runs.now × (from ≤ route_count list.now) × Walked (route_at list.now) (route_count list.now) runs.now from walk }
+    ensures { MatchOption result (Walked (route_at list.now) (route_count list.now) runs.now (route_count list.now) walk) (λ s. NextSegment (route_at list.now) (route_count list.now) runs.now from walk s) }
+{
+    for i in from..list.len() / ROUTE_SIZE {
+        let route = route_at(list, i);
+        if begins_new(route, 16, walk.next) {
+            return Some(segment_at(list, runs, i, block_of(route, 16), walk));
+        }
+    }
+    None
 }
 
 // Goes through the segments and counts them, and the last blocks.
@@ -124,13 +142,10 @@ pub(crate) fn count_segments(list: &[u32], runs: &[u32]) -> Walk
     ensures { Counted (route_at list.now) (route_count list.now) result }
 {
     let mut walk = Walk::START;
-    for i in 0..list.len() / ROUTE_SIZE {
-        let route = route_at(list, i);
-        if !begins_new(route, 16, walk.next) {
-            continue;
-        }
-        let s = segment_at(list, runs, i, block_of(route, 16), walk);
+    let mut i = 0;
+    while let Some(s) = next_segment(list, runs, i, walk) {
         walk = s.after;
+        i = s.from;
     }
     walk
 }

@@ -11,7 +11,7 @@ ghost use Rattle.segment_build.specs.Needs.{PutLast, SegmentRoom, PutSegment, Se
 ghost use Rattle.segment_rules.specs.Build.{stores, tables_over};
 
 use crate::blocks::{begins_new, block_of};
-use crate::segments::{Segment, Walk, pointer_to, segment_at};
+use crate::segments::{Segment, Walk, next_segment, pointer_to};
 use routes::{ROUTE_SIZE, route_at};
 use segment_pack::{copy, pack};
 use segment_ports::fill_ports;
@@ -52,25 +52,18 @@ fn put_last(last: &mut [u16], number: usize, runs: &[u32], run: usize, y: usize)
     fill_ports(&mut last[at..at + BLOCK_SIZE], runs, run, y * BLOCK_SIZE, 0)
 }
 
-// Segment x: its block at its number, and what names it in the first table.
-fn put_segment(
-    first: &mut [u16],
-    packed: &mut [u16],
-    plain: &mut [u16],
-    x: usize,
-    s: &Segment,
-    walk: Walk,
-)
-    requires { SegmentRoom first.old packed.old plain.old x s.now.entries s.now.packed walk }
-    ensures { PutSegment first.old packed.old plain.old x s.now.entries s.now.packed walk first.new packed.new plain.new }
+// A segment: its block at its number, and what names it in the first table.
+fn put_segment(first: &mut [u16], packed: &mut [u16], plain: &mut [u16], s: &Segment, walk: Walk)
+    requires { SegmentRoom first.old packed.old plain.old s.now.x s.now.entries s.now.packed walk }
+    ensures { PutSegment first.old packed.old plain.old s.now.x s.now.entries s.now.packed walk first.new packed.new plain.new }
 {
     if s.packed {
         put_packed(packed, walk.packed, &s.entries);
-        first[x] = pointer_to(POINTER, walk.packed);
+        first[s.x] = pointer_to(POINTER, walk.packed);
         return;
     }
     put_plain(plain, walk.plain, &s.entries);
-    first[x] = pointer_to(PLAIN_POINTER, walk.plain);
+    first[s.x] = pointer_to(PLAIN_POINTER, walk.plain);
 }
 
 // All segments: their blocks, and what names them in the first table, which has its ports.
@@ -85,15 +78,11 @@ fn fill_segments(
     ensures { FilledSegments (route_at list.now) (route_count list.now) first.old packed.old plain.old first.new packed.new plain.new }
 {
     let mut walk = Walk::START;
-    for i in 0..list.len() / ROUTE_SIZE {
-        let route = route_at(list, i);
-        if !begins_new(route, 16, walk.next) {
-            continue;
-        }
-        let x = block_of(route, 16);
-        let s = segment_at(list, runs, i, x, walk);
-        put_segment(first, packed, plain, x, &s, walk);
+    let mut i = 0;
+    while let Some(s) = next_segment(list, runs, i, walk) {
+        put_segment(first, packed, plain, &s, walk);
         walk = s.after;
+        i = s.from;
     }
 }
 

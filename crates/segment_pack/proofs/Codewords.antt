@@ -10,11 +10,12 @@ use lib.Count.{ones, ones-le}
 use lib.Pow.{pow_mono}
 use lib.ListN.{length, get_or, set, drop_of_length-le}
 use borrow.Author.Tests.{eq-eqb, ne_eqb}
+use Rattle.std.proofs.lemmas.Grind.{same_number_lists}
 use Rattle.promise.specs.Over.{over}
 use Rattle.promise.proofs.Over.{over_push}
 use Rattle.lists.specs.Numbered.{list_of}
 use Rattle.lists.proofs.Below.{number_suc, number_zero}
-use Rattle.lists.proofs.Numbered.{list_of_snoc, length_list_of}
+use Rattle.lists.proofs.Numbered.{list_of_snoc, length_list_of, get_d_list_of}
 use Rattle.bits.specs.Bits.{bit, value}
 use Rattle.segment_rules.specs.Packed.{codewords, is_one, ones_below, eight_bits}
 use Rattle.segment_rules.proofs.Ranks.{value_list_of_lt, value_list_of_suc, ones_list_of}
@@ -85,6 +86,13 @@ pub words_all : {A : Type 0} (f : ℕ → A) (lent : List A) (c : ℕ) → lengt
 words_all {A} f lent c e =
     let past : length lent ≤ length (list_of f c 0) = omega (arith, length_list_of f c 0) in
     ap (λ (xs : List A). list_of f c 0 ++ xs) (drop_of_length-le lent past) ∙ append-nil (list_of f c 0)
+
+-- the words of a list, one by one, are the list
+pub words_back : (xs : List ℕ) (n : ℕ) → length xs ≡ n → list_of (λ i. get_or xs i 0) n 0 ≡ xs
+words_back xs n e =
+    let f = λ (i : ℕ). get_or xs i 0 in
+    same_number_lists (list_of f n 0) xs (length_list_of f n 0 ∙ sym e)
+    (λ k h. let z : 0 + k ≡ k = omega arith in get_d_list_of f n 0 k 0 (omega (arith, h, length_list_of f n 0)) ∙ ap f z)
 
 -- the first c codewords are made
 pub record CodedTo (entries : List ℕ) (codes₀ codes : List Code) (n c : ℕ) : Type 0 where

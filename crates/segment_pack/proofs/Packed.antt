@@ -10,7 +10,7 @@ use lib.Count.{ones}
 use lib.ListN.{length, get_or, set, replicate, length-append, length-replicate, drop_of_length-le, get_or-append}
 use lib.Seq.{get_or-append-add, set-append_seam, append_snoc, set-get_or}
 use borrow.Author.Tests.{eq-eqb, ne_eqb, le-leb, lt-leb}
-use Rattle.std.proofs.lemmas.Grind.{same_number_lists}
+use Rattle.segment_pack.proofs.Codewords.{words_back}
 use Rattle.promise.specs.Over.{over}
 use Rattle.lists.specs.Below.{number_below}
 use Rattle.lists.specs.Numbered.{list_of, in_order}
@@ -221,8 +221,4 @@ module _ (entries block : List ℕ) where
 
   pub copy_all : length block ≡ block_size → length entries ≡ block_size → entries ≡ copy_into entries block
   unfolding copy_into
-  copy_all sized whole =
-      let f = λ (i : ℕ). get_or entries i 0 in
-      same_number_lists entries (list_of f block_size 0) (whole ∙ sym (length_list_of f block_size 0))
-      (λ k h. let z : 0 + k ≡ k = omega arith in sym (get_d_list_of f block_size 0 k 0 (omega (arith, h, whole)) ∙ ap f z))
-      ∙ rw (eq-eqb (length block) block_size sized)
+  copy_all sized whole = sym (words_back entries block_size whole) ∙ rw (eq-eqb (length block) block_size sized)

@@ -124,124 +124,104 @@ fn kept_after(kept: usize, before: Leaf, after: Leaf) -> usize
     if before == after { kept } else { after.0 }
 }
 
-// All slots of a node. The search for a slot's stretch resumes where that of the slot before ended. Leaves with the node's port are
-// only counted, and their ports stored together: the ports of a node's leaves stand side by side.
-fn fill_node(
-    list: &[u32],
-    x: Stretch,
-    stride: u32,
-    slots: u32,
-    nodes: &mut [u32],
-    ports: &mut [u16],
-    at: Free,
-) -> Filled
-    requires { (slots ≤ most_slots) × Buildable 32 (route_at list.now) stride slots x × (0 < at.node.0)
-        × (node_start (at.node.0 + length (flat slot_children (stretch_slots 32 (route_at list.now) stride slots x))) ≤ length nodes.old)
-        × (at.leaf.0 + length (flat slot_ports (stretch_slots 32 (route_at list.now) stride slots x)) ≤ length ports.old) }
-    ensures { (result ≡ filled (bitmap (stretch_slots 32 (route_at list.now) stride slots x))
-        (at.node.0 + length (flat slot_children (stretch_slots 32 (route_at list.now) stride slots x)))
-        (at.leaf.0 + length (flat slot_ports (stretch_slots 32 (route_at list.now) stride slots x))))
-        × (nodes.new ≡ store_nodes nodes.old at.node.0 (flat pending (flat slot_children (stretch_slots 32 (route_at list.now) stride slots x))))
-        × (ports.new ≡ sets ports.old at.leaf.0 (flat slot_ports (stretch_slots 32 (route_at list.now) stride slots x))) }
-{
-    let address = address_of(list, x);
-    let depth = x.depth + stride;
-    let mut j = 0;
-    let mut search = search_from(list, x, x.lo, address, depth, slots);
-    let mut kept = at.leaf.0;
-    let mut st = Filled {
-        bitmap: 0,
-        node: at.node,
-        leaf: at.leaf,
-    };
-    while j < slots {
-        if j < search.clear {
-            st = skip_leaves(search.clear - j, st);
-            j = search.clear;
-            continue;
+// What an image is built of: the routes of a list, at a stride, and the slots that its nodes have.
+#[derive(Clone, Copy)]
+pub(crate) struct Source<'a> {
+    pub list: &'a [u32],
+    pub stride: u32,
+    pub slots: u32,
+}
+
+impl Source<'_> {
+    // All slots of a node. The search for a slot's stretch resumes where that of the slot before ended. Leaves with the node's port are
+    // only counted, and their ports stored together: the ports of a node's leaves stand side by side.
+    fn fill_node(self, x: Stretch, nodes: &mut [u32], ports: &mut [u16], at: Free) -> Filled
+        requires { (self.slots ≤ most_slots) × Buildable 32 (route_at self.list.now) self.stride self.slots x × (0 < at.node.0)
+            × (node_start (at.node.0 + length (flat slot_children (stretch_slots 32 (route_at self.list.now) self.stride self.slots x))) ≤ length nodes.old)
+            × (at.leaf.0 + length (flat slot_ports (stretch_slots 32 (route_at self.list.now) self.stride self.slots x)) ≤ length ports.old) }
+        ensures { (result ≡ filled (bitmap (stretch_slots 32 (route_at self.entry.list.now) self.entry.stride self.entry.slots x))
+            (at.node.0 + length (flat slot_children (stretch_slots 32 (route_at self.entry.list.now) self.entry.stride self.entry.slots x)))
+            (at.leaf.0 + length (flat slot_ports (stretch_slots 32 (route_at self.entry.list.now) self.entry.stride self.entry.slots x))))
+            × (nodes.new ≡ store_nodes nodes.old at.node.0 (flat pending (flat slot_children (stretch_slots 32 (route_at self.entry.list.now) self.entry.stride self.entry.slots x))))
+            × (ports.new ≡ sets ports.old at.leaf.0 (flat slot_ports (stretch_slots 32 (route_at self.entry.list.now) self.entry.stride self.entry.slots x))) }
+    {
+        let address = address_of(self.list, x);
+        let depth = x.depth + self.stride;
+        let mut j = 0;
+        let mut search = search_from(self.list, x, x.lo, address, depth, self.slots);
+        let mut kept = at.leaf.0;
+        let mut st = Filled {
+            bitmap: 0,
+            node: at.node,
+            leaf: at.leaf,
+        };
+        while j < self.slots {
+            if j < search.clear {
+                st = skip_leaves(search.clear - j, st);
+                j = search.clear;
+                continue;
+            }
+            let y = find_slot(self.list, x, search, address, depth, j);
+            let before = st.leaf;
+            st = fill_slot(self.list, y, nodes, ports, kept, x.best, st);
+            kept = kept_after(kept, before, st.leaf);
+            search = search_after(self.list, x, search.short, y, address, depth, self.slots);
+            j += 1;
         }
-        let y = find_slot(list, x, search, address, depth, j);
-        let before = st.leaf;
-        st = fill_slot(list, y, nodes, ports, kept, x.best, st);
-        kept = kept_after(kept, before, st.leaf);
-        search = search_after(list, x, search.short, y, address, depth, slots);
-        j += 1;
+        fill(ports, kept, st.leaf.0, x.best as u16);
+        st
     }
-    fill(ports, kept, st.leaf.0, x.best as u16);
-    st
-}
 
-// One node: its children are put from the first node on that is not in use, and its words over its own.
-fn build_node(
-    list: &[u32],
-    stride: u32,
-    slots: u32,
-    nodes: &mut [u32],
-    ports: &mut [u16],
-    at: Node,
-    st: Free,
-) -> Free
-    requires { (slots ≤ most_slots) × (0 < at.0) × (at.0 < st.node.0) × (st.node.0 ≤ 2 ^ 32)
-        × Buildable 32 (route_at list.now) stride slots (pending_at nodes.old at.0)
-        × (node_start (st.node.0 + length (children (stretch_slots 32 (route_at list.now) stride slots) (pending_at nodes.old at.0))) ≤ length nodes.old)
-        × (st.leaf.0 + length (leaf_ports (stretch_slots 32 (route_at list.now) stride slots) (pending_at nodes.old at.0)) ≤ length ports.old) }
-    ensures { (result ≡ free (st.node.0 + length (children (stretch_slots 32 (route_at list.now) stride slots) (pending_at nodes.old at.0)))
-        (st.leaf.0 + length (leaf_ports (stretch_slots 32 (route_at list.now) stride slots) (pending_at nodes.old at.0))))
-        × (nodes.new ≡ build_node (stretch_slots 32 (route_at list.now) stride slots) nodes.old at.0 st.node.0 (pending_at nodes.old at.0))
-        × (ports.new ≡ sets ports.old st.leaf.0 (leaf_ports (stretch_slots 32 (route_at list.now) stride slots) (pending_at nodes.old at.0))) }
-{
-    let x = pending_at(nodes, at);
-    let f = fill_node(list, x, stride, slots, nodes, ports, st);
-    put_node(nodes, at, st.node, f)
-}
-
-// All nodes, one after the other; the root is there already.
-fn build_nodes(
-    list: &[u32],
-    n: usize,
-    stride: u32,
-    slots: u32,
-    nodes: &mut [u32],
-    ports: &mut [u16],
-)
-    requires { (slots ≤ most_slots) × (nodes.old ≡ store_nodes nodes.old 1 (pending (root_of n)))
-        × Queue 32 (route_at list.now) stride slots n (stretch_slots 32 (route_at list.now) stride slots) (levels (stretch_slots 32 (route_at list.now) stride slots) (32 / stride) (root_of n ∷ [])) nodes.old ports.old }
-    ensures { (nodes.new ≡ over (tree_words (stretch_slots 32 (route_at list.now) stride slots) (levels (stretch_slots 32 (route_at list.now) stride slots) (32 / stride) (root_of n ∷ []))) nodes.old)
-        × (ports.new ≡ over (tree_ports (stretch_slots 32 (route_at list.now) stride slots) (levels (stretch_slots 32 (route_at list.now) stride slots) (32 / stride) (root_of n ∷ []))) ports.old) }
-{
-    let mut at = Node::ROOT;
-    let mut st = Free {
-        node: Node(2),
-        leaf: Leaf(0),
-    };
-    while at.0 < st.node.0 {
-        st = build_node(list, stride, slots, nodes, ports, at, st);
-        at = at.plus(Distance(1));
+    // One node: its children are put from the first node on that is not in use, and its words over its own.
+    fn build_node(self, nodes: &mut [u32], ports: &mut [u16], at: Node, st: Free) -> Free
+        requires { (self.slots ≤ most_slots) × (0 < at.0) × (at.0 < st.node.0) × (st.node.0 ≤ 2 ^ 32)
+            × Buildable 32 (route_at self.list.now) self.stride self.slots (pending_at nodes.old at.0)
+            × (node_start (st.node.0 + length (children (stretch_slots 32 (route_at self.list.now) self.stride self.slots) (pending_at nodes.old at.0))) ≤ length nodes.old)
+            × (st.leaf.0 + length (leaf_ports (stretch_slots 32 (route_at self.list.now) self.stride self.slots) (pending_at nodes.old at.0)) ≤ length ports.old) }
+        ensures { (result ≡ free (st.node.0 + length (children (stretch_slots 32 (route_at self.entry.list.now) self.entry.stride self.entry.slots) (pending_at nodes.old at.0)))
+            (st.leaf.0 + length (leaf_ports (stretch_slots 32 (route_at self.entry.list.now) self.entry.stride self.entry.slots) (pending_at nodes.old at.0))))
+            × (nodes.new ≡ build_node (stretch_slots 32 (route_at self.entry.list.now) self.entry.stride self.entry.slots) nodes.old at.0 st.node.0 (pending_at nodes.old at.0))
+            × (ports.new ≡ sets ports.old st.leaf.0 (leaf_ports (stretch_slots 32 (route_at self.entry.list.now) self.entry.stride self.entry.slots) (pending_at nodes.old at.0))) }
+    {
+        let x = pending_at(nodes, at);
+        let f = self.fill_node(x, nodes, ports, st);
+        put_node(nodes, at, st.node, f)
     }
-}
 
-// The image of the first n routes, where there is room for it.
-pub(crate) fn write_image(
-    list: &[u32],
-    n: usize,
-    stride: u32,
-    slots: u32,
-    nodes: &mut [u32],
-    ports: &mut [u16],
-)
-    requires { ImageRoom 32 list.now n stride slots nodes.old ports.old }
-    ensures { (nodes.new ≡ over (image_nodes stride (32 / stride) (routes_of 32 (route_at list.now) n)) nodes.old)
-        × (ports.new ≡ over (image_ports stride (32 / stride) (routes_of 32 (route_at list.now) n)) ports.old) }
-{
-    store_pending(
-        nodes,
-        Node::ROOT,
-        Stretch {
-            lo: 0,
-            hi: n,
-            depth: 0,
-            best: 0,
-        },
-    );
-    build_nodes(list, n, stride, slots, nodes, ports);
+    // All nodes, one after the other; the root is there already.
+    fn build_nodes(self, n: usize, nodes: &mut [u32], ports: &mut [u16])
+        requires { (self.slots ≤ most_slots) × (nodes.old ≡ store_nodes nodes.old 1 (pending (root_of n)))
+            × Queue 32 (route_at self.list.now) self.stride self.slots n (stretch_slots 32 (route_at self.list.now) self.stride self.slots) (levels (stretch_slots 32 (route_at self.list.now) self.stride self.slots) (32 / self.stride) (root_of n ∷ [])) nodes.old ports.old }
+        ensures { (nodes.new ≡ over (tree_words (stretch_slots 32 (route_at self.entry.list.now) self.entry.stride self.entry.slots) (levels (stretch_slots 32 (route_at self.entry.list.now) self.entry.stride self.entry.slots) (32 / self.entry.stride) (root_of n ∷ []))) nodes.old)
+            × (ports.new ≡ over (tree_ports (stretch_slots 32 (route_at self.entry.list.now) self.entry.stride self.entry.slots) (levels (stretch_slots 32 (route_at self.entry.list.now) self.entry.stride self.entry.slots) (32 / self.entry.stride) (root_of n ∷ []))) ports.old) }
+    {
+        let mut at = Node::ROOT;
+        let mut st = Free {
+            node: Node(2),
+            leaf: Leaf(0),
+        };
+        while at.0 < st.node.0 {
+            st = self.build_node(nodes, ports, at, st);
+            at = at.plus(Distance(1));
+        }
+    }
+
+    // The image of the first n routes, where there is room for it.
+    pub(crate) fn write_image(self, n: usize, nodes: &mut [u32], ports: &mut [u16])
+        requires { ImageRoom 32 self.list.now n self.stride self.slots nodes.old ports.old }
+        ensures { (nodes.new ≡ over (image_nodes self.entry.stride (32 / self.entry.stride) (routes_of 32 (route_at self.entry.list.now) n)) nodes.old)
+            × (ports.new ≡ over (image_ports self.entry.stride (32 / self.entry.stride) (routes_of 32 (route_at self.entry.list.now) n)) ports.old) }
+    {
+        store_pending(
+            nodes,
+            Node::ROOT,
+            Stretch {
+                lo: 0,
+                hi: n,
+                depth: 0,
+                best: 0,
+            },
+        );
+        self.build_nodes(n, nodes, ports);
+    }
 }

@@ -4,7 +4,7 @@
 ghost use Rattle.std.specs.Prelude.{◌≡◌};
 ghost use Rattle.image_build.specs.Build.{left, built_of, build_image};
 
-use fill::write_image;
+use fill::Source;
 use image_count::count_nodes;
 use image_nodes::NODE_SIZE;
 use image_numbers::{is_stride, slots_of};
@@ -74,7 +74,12 @@ pub fn build(
     if ports.len() < leaves {
         return Err(Fault::NoRoom.at(0));
     }
-    write_image(list, n, stride, slots, nodes, ports);
+    let source = Source {
+        list,
+        stride,
+        slots,
+    };
+    source.write_image(n, nodes, ports);
     Ok(Written {
         nodes: count as u32,
         ports: leaves as u32,

@@ -223,22 +223,3 @@ module _ (R : ℕ → Route) (n : ℕ) (runs first packed plain : List ℕ) (roo
           ∙ ap (λ (xs : List ℕ). over xs plain)
           (sym (gathered_to (has_plain R n) (segment R n) w.next (2 ^ 16) walked.low (λ z a b. (neither_of R n z (none_left z a b)).1)));
     }
-
-  -- the stores keep their lengths
-  module _ (next : ℕ) (below : next ≤ 2 ^ 16) (first' packed' plain' : List ℕ) (st : Stored R n first packed plain next first' packed' plain') where
-    pub length_first_stored : length first' ≡ length first
-    length_first_stored = ap length st.first_is ∙ length_over (marks next) first (omega (arith, length_marks next, room.first_room))
-
-    pub length_packed_stored : length packed' ≡ length packed
-    length_packed_stored =
-        let l = length_gathered (has_packed R n) (λ x. packed_block (segment R n x)) packed_size next (λ y a t. packed_each R n y (omega arith) t) in
-        ap length st.packed_is
-        ∙ length_over (gathered (has_packed R n) (λ x. packed_block (segment R n x)) next) packed
-        (omega (arith, l, room.packed_room, number_mono (has_packed R n) next (2 ^ 16) below))
-
-    pub length_plain_stored : length plain' ≡ length plain
-    length_plain_stored =
-        let l = length_gathered (has_plain R n) (segment R n) block_size next (λ y a t. plain_each R n y (omega arith) t) in
-        ap length st.plain_is
-        ∙ length_over (gathered (has_plain R n) (segment R n) next) plain
-        (omega (arith, l, room.plain_room, number_mono (has_plain R n) next (2 ^ 16) below))

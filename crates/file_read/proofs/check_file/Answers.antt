@@ -33,9 +33,6 @@ returns-in_err-c c = let file = c.args.file.now in
     let p = err_from_is_err_and c.from_residual-in_err-c.result c.from_residual-in_err-c.ensures.1 in
     rw (p.1, p.2) (reached_refused 32 file c.loop-c.c c.loop-c.invariant _ (sym c.in_ok-head_fault.ensures) c.loop-c-test.true (sym c.in_err-c.ensures))
 
-pub overflow_cast-result : goal.overflow_cast-result
-overflow_cast-result c = omega (arith, c.loop-c.invariant.few)
-
 pub returns : goal.returns
 returns c = let file = c.args.file.now in
     reached_all 32 file c.loop-c.c c.loop-c.invariant (sym c.in_ok-head_fault.ensures) c.loop-c-test.false

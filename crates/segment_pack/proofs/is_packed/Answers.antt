@@ -10,9 +10,6 @@ use Rattle.segment_pack.proofs.is_packed.Goals as goal
 pub loop-i-init : goal.loop-i-init
 loop-i-init c = (omega arith, sym (number_zero _))
 
-pub overflow_add-ones : goal.overflow_add-ones
-overflow_add-ones c = omega (arith, c.bit_of-ones.ensures.1)
-
 pub loop-i-preserved : goal.loop-i-preserved
 loop-i-preserved c = (omega (arith, c.bit_of-ones.ensures.1), ones_more _ _ _ _ c.loop-i.invariant.1 c.bit_of-ones.ensures.0)
 

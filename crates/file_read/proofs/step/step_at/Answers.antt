@@ -2,16 +2,12 @@ use mathlib.Core.Path.{refl, ap, ◌∙◌}
 use Rattle.std.proofs.Common.{Err}
 use Rattle.refusals.proofs.Numbers.{number_ne0}
 use Rattle.file_read.specs.Step.{stepped}
-use Rattle.file_read.proofs.StepReturns.{step_unframed, step_entire, step_faulty, step_took}
+use Rattle.file_read.proofs.StepReturns.{step_unframed, step_faulty, step_took}
 use Rattle.file_read.proofs.step.step_at.Goals as goal
 
 pub returns-in-Err : goal.returns-in-Err
 returns-in-Err c = let a = c.args in
     ap (λ r. stepped (Err r)) c.at.ensures ∙ step_unframed 32 a.file.now a.c _ c.in-Err.ensures (number_ne0 _)
-
-pub read_at-r-requires : goal.read_at-r-requires
-read_at-r-requires c = let a = c.args in
-    step_entire 32 a.file.now a.c _ c.in_default.ensures refl
 
 pub returns-in-Err-content_fault : goal.returns-in-Err-content_fault
 returns-in-Err-content_fault c = let a = c.args in

@@ -16,7 +16,7 @@ use Rattle.lists.proofs.Below.{some_below_lem}
 use Rattle.refusals.specs.Refusals.{wrong_port, no_room, not_in_order, accepted, keeping_at, checked}
 use Rattle.refusals.specs.declared.Answer.{Answer}
 use Rattle.refusals.specs.declared.Refusal.{Refusal}
-use Rattle.refusals.proofs.Numbers.{number_ne0, updated_one}
+use Rattle.refusals.proofs.Numbers.{number_ne0}
 use Rattle.std.proofs.Common.{Result, Ok, Err, is_err}
 use Rattle.routes.specs.Check.{is_port}
 use Rattle.table_rules.specs.Rows.{Layout}
@@ -27,7 +27,7 @@ use Rattle.message_check.specs.Checked.{checked_of}
 use Rattle.message_check.specs.Checked.{Checked}
 use Rattle.message_check.proofs.Whole.{checked_answer}
 use Rattle.count_rules.specs.Tally.{ports, differ}
-use Rattle.count_rules.specs.Counted.{passed, message_fault, counts_of, make_counts, first_check, recounted}
+use Rattle.count_rules.specs.Counted.{message_fault, counts_of, make_counts, first_check, recounted}
 use Rattle.count_rules.proofs.Counted.{length_counts, first_passed}
 use Rattle.count_rules.proofs.History.{MadeAfresh, made_afresh}
 
@@ -156,9 +156,3 @@ refused_ne0 (Err r) t z = number_ne0 r.fault z
 pub fine_0 : (x : Result Unit Refusal) → is_err x ≡ false → (checked x).number ≡ 0
 fine_0 (Ok u) f = refl
 fine_0 (Err r) f = cc
-
-pub passed_one : (n : ℕ) (x y : Result Unit Refusal) → passed n x ≡ passed n y → x ≡ y
-passed_one n (Ok u) (Ok v) e = refl
-passed_one n (Ok u) (Err r) e = absurd (number_ne0 r.fault (sym (ap (λ (a : Answer). a.number) e)))
-passed_one n (Err r) (Ok v) e = absurd (number_ne0 r.fault (ap (λ (a : Answer). a.number) e))
-passed_one n (Err r) (Err s) e = let same = updated_one n (Err r) (Err s) e in cc

@@ -47,7 +47,7 @@ fn store_changed(counts: &mut [u64], fresh: &[u64])
 
 // The first checks of every update of a table of n rows with counts; `fault` is what its arguments are refused with. Refuses: 9 at 0,
 // fewer than 4,095 counts are lent; then as `fault` does; then 11 at 0, the table is not in good order or the counts are not its own.
-pub fn first_check(
+fn first_check(
     fault: Result<(), Refusal>,
     rows: &[u32],
     n: u32,

@@ -1,4 +1,3 @@
-use Prim.Native.Nat.{◌-◌}
 use native.Mathlib.Omega.{arith}
 use Rattle.routes.specs.Routes.{route_at, route_count}
 use Rattle.octets.proofs.Parts.{summed_none, summed_more}

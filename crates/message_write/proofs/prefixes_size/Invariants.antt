@@ -1,4 +1,3 @@
-use Prim.Native.Nat.{◌-◌}
 use Rattle.message_write.proofs.Listed.{Counted}
 use Rattle.message_write.proofs.prefixes_size.Given as goal
 

@@ -1,4 +1,3 @@
-use Prim.Native.Nat.{◌-◌}
 use native.Mathlib.Omega.{arith}
 use Rattle.message_write.proofs.Heads.{marking_none, marking_more, marking_all}
 use Rattle.message_write.proofs.put_marker.Goals as goal

@@ -1,5 +1,3 @@
-use Prim.Native.Nat.{◌-◌}
-use Rattle.message_rules.specs.Message.{marker_size}
 use Rattle.message_write.proofs.Heads.{Marking}
 use Rattle.message_write.proofs.put_marker.Given as goal
 

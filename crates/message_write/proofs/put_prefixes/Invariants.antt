@@ -1,4 +1,3 @@
-use Prim.Native.Nat.{◌-◌}
 use Rattle.message_write.proofs.Listed.{Listed}
 use Rattle.message_write.proofs.put_prefixes.Given as goal
 

@@ -1,20 +1,7 @@
 use borrow.Author.Tests.{lt-ltb, le-ltb}
 use native.Mathlib.Omega.{arith}
-use lib.ListN.{length-set}
 use Rattle.table_rows.specs.Words.{row_count, store_row}
 use Rattle.table_rows.proofs.store_row.Goals as goal
-
-pub bounds-rows-at-then-r-rows : goal.bounds-rows-at-then-r-rows
-bounds-rows-at-then-r-rows c = simp length-set (omega arith)
-
-pub bounds-rows-at-then-r-rows-2 : goal.bounds-rows-at-then-r-rows-2
-bounds-rows-at-then-r-rows-2 c = simp length-set (omega arith)
-
-pub bounds-rows-at-then-r-rows-3 : goal.bounds-rows-at-then-r-rows-3
-bounds-rows-at-then-r-rows-3 c = simp length-set (omega arith)
-
-pub bounds-rows-at-then-r-rows-4 : goal.bounds-rows-at-then-r-rows-4
-bounds-rows-at-then-r-rows-4 c = simp length-set (omega arith)
 
 pub returns-then-r-rows : goal.returns-then-r-rows
 unfolding store_row

@@ -10,17 +10,10 @@ use Rattle.table_save.proofs.+save_at_save_below.Goals as goal
 pub save_at-whole_row-x-requires : goal.save_at-whole_row-x-requires
 save_at-whole_row-x-requires t c = ready_row (row_at c.args.rows.now) (row_count c.args.rows.now) c.args.left c.args.row c.requires.0
 
-pub save_at-overflow_add-result : goal.save_at-overflow_add-result
-save_at-overflow_add-result t c = omega (arith, size_last (row_at c.args.rows.now) c.args.left c.args.row c.if-left-eq0.true, c.requires.1)
-
 pub save_at-returns-then-left-eq0 : goal.save_at-returns-then-left-eq0
 save_at-returns-then-left-eq0 t c = let last = size_last (row_at c.args.rows.now) c.args.left c.args.row c.if-left-eq0.true in
     let room : c.args.at * 3 + 3 ≤ length c.args.list.now = omega (arith, last, c.requires.1) in
     wrote_last (row_at c.args.rows.now) c.args.left c.args.row c.args.at _ _ _ _ c.if-left-eq0.true c.whole_row-x.ensures c.route_of.ensures room c.store_route.ensures
-
-pub save_at-overflow_sub-left : goal.save_at-overflow_sub-left
-save_at-overflow_sub-left t c = let ne = c.if-left-eq0.false in
-    omega arith
 
 pub save_at-save_below-middle-requires : goal.save_at-save_below-middle-requires
 save_at-save_below-middle-requires t c = let ne = c.if-left-eq0.false in
@@ -31,10 +24,6 @@ save_at-save_below-middle-requires t c = let ne = c.if-left-eq0.false in
         omega (arith, size_more M c.args.left c.args.row _ ne c.whole_row-x.ensures, c.requires.1),
       ),
     )
-
-pub save_at-overflow_sub-left-2 : goal.save_at-overflow_sub-left-2
-save_at-overflow_sub-left-2 t c = let ne = c.if-left-eq0.false in
-    omega arith
 
 pub save_at-overflow_add-middle : goal.save_at-overflow_add-middle
 save_at-overflow_add-middle t c = omega (

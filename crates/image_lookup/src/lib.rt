@@ -97,8 +97,6 @@ fn descend<const STRIDE: u32>(nodes: &[u32], ports: &[u16], address: u32) -> Res
     let mut at = Node::ROOT;
     let mut reads = 0;
     for left in (0..32 / STRIDE).rev() {
-        // First of all, so that it does not wait for the node's words.
-        let j = (address >> (STRIDE * left)) % slots;
         if node_count(nodes) < at.0 {
             return not_in_order(reads);
         }
@@ -113,6 +111,7 @@ fn descend<const STRIDE: u32>(nodes: &[u32], ports: &[u16], address: u32) -> Res
         if before < children {
             return not_in_order(reads);
         }
+        let j = (address >> (STRIDE * left)) % slots;
         let ones = ones_before(slots, bitmap, j);
         if is_leaf(slots, bitmap, j) {
             return port_at(ports, leaf_of(before, children, ones), reads);

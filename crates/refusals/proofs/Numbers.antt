@@ -6,7 +6,10 @@ use Rattle.refusals.specs.declared.Fault.{Fault}
 use Rattle.refusals.specs.declared.Fault.TheVariants.{ShortFile, WrongVersion, WrongSize, LongPrefix, SpareBits, WrongPort, NotAbove, TooManyRoutes, NoRoom, NotHeld, NotInOrder, WrongStride, BadMessage}
 use Rattle.refusals.specs.declared.Refusal.{Refusal}
 use Rattle.refusals.specs.declared.Answer.{Answer}
-use Rattle.refusals.specs.Refusals.{number_of, fault_number, checked, answered, updated, refusal_at}
+use Rattle.refusals.specs.declared.found.Found.{Found}
+use Rattle.refusals.specs.declared.found.Reached.{Reached}
+use Rattle.refusals.specs.declared.found.Lost.{Lost}
+use Rattle.refusals.specs.Refusals.{number_of, found_of, fault_number, checked, answered, updated, refusal_at}
 
 -- 0 is the number of none
 pub number_ne0 : (fault : Fault) → number_of fault ≡ 0 → ⊥
@@ -92,3 +95,12 @@ answered_one (Err a) (Err b) e = ap Err (refusal_one a b (ap (λ (a : Answer). a
 pub told_one : {A : Type 0} (view : A → Answer) → ((x y : A) → view x ≡ view y → x ≡ y) → (x y : A) (a b : List ℕ)
     → outcome (view x) a ≡ outcome (view y) b → outcome x a ≡ outcome y b
 told_one view one x y a b e = ap₂ outcome (one x y (ap (λ o. o.answer) e)) (ap (λ o. o.lent) e)
+
+-- of a lookup too
+pub found_of_one : (x y : Result Reached Lost) → found_of x ≡ found_of y → x ≡ y
+found_of_one (Ok a) (Ok b) e = λ i. Ok (record { port = ap (λ (f : Found). f.port) e i; reads = ap (λ (f : Found). f.reads) e i })
+found_of_one (Ok a) (Err b) e = absurd (number_ne0 b.fault (sym (ap (λ (f : Found). f.number) e)))
+found_of_one (Err a) (Ok b) e = absurd (number_ne0 a.fault (ap (λ (f : Found). f.number) e))
+found_of_one (Err a) (Err b) e =
+    let faults = number_one a.fault b.fault (ap (λ (f : Found). f.number) e) in
+    λ i. Err (record { fault = faults i; reads = ap (λ (f : Found). f.reads) e i })

@@ -3,6 +3,7 @@
 
 ghost use Rattle.std.specs.Prelude.{◌≡◌, ◌≤◌, length};
 ghost use Rattle.promise.specs.Over.{outcome, over};
+ghost use Rattle.refusals.specs.Refusals.{checked};
 ghost use Rattle.lists.specs.Numbered.{list_of};
 ghost use Rattle.table_rows.specs.Words.{five_words};
 ghost use Rattle.runs_rules.specs.Runs.{run, run_at};
@@ -11,7 +12,7 @@ ghost use Rattle.count_rules.specs.Counted.{make_counts};
 ghost use Rattle.count_make.specs.Adding.{noughts, add_run, added_runs, Addable, AllAddable};
 
 use count_rules::PORTS;
-use refusals::{Answer, NO_ROOM};
+use refusals::{Fault, Refusal};
 use runs_write::{RUN_SIZE, table_runs};
 
 // The words of as many runs as a table can have.
@@ -22,10 +23,8 @@ fn clear_counts(counts: &mut [u64])
     requires { ports ≤ length counts.old }
     ensures { counts.new ≡ over (noughts ports) counts.old }
 {
-    let mut port: usize = 0;
-    while port < PORTS {
+    for port in 0..PORTS {
         counts[port] = 0;
-        port += 1;
     }
 }
 
@@ -35,7 +34,7 @@ fn add_run(counts: &mut [u64], first: u32, last: u32, port: u32)
     ensures { counts.new ≡ add_run counts.old (run first last port) }
 {
     let at = port as usize;
-    counts[at] = counts[at] + ((last - first) as u64 + 1);
+    counts[at] += (last - first) as u64 + 1;
 }
 
 // Adds the addresses of the first k runs.
@@ -43,30 +42,24 @@ fn add_runs(counts: &mut [u64], runs: &[u32], k: usize)
     requires { AllAddable runs.now k counts.old }
     ensures { counts.new ≡ added_runs counts.old (list_of (run_at runs.now) k 0) }
 {
-    let mut i: usize = 0;
-    while i < k {
+    for i in 0..k {
         let at = i * RUN_SIZE;
         add_run(counts, runs[at], runs[at + 1], runs[at + 2]);
-        i += 1;
     }
 }
 
 // Makes the counts of a table of n rows afresh: the first 4,095 are written, whatever stood there. Refuses, at place 0: 9, fewer are
 // lent; 11, the table is not in good order. It needs some 160 KB of stack for the routes and the runs.
-pub fn make(rows: &[u32], n: u32, counts: &mut [u64]) -> Answer
-    ensures { outcome result counts.new ≡ make_counts five_words 32 rows.now n counts.old }
+pub fn make(rows: &[u32], n: u32, counts: &mut [u64]) -> Result<(), Refusal>
+    ensures { outcome (checked result) counts.new ≡ make_counts five_words 32 rows.now n counts.old }
 {
     if counts.len() < PORTS {
-        return Answer::refused(NO_ROOM, 0);
+        return Err(Fault::NoRoom.at(0));
     }
     let mut runs = [0u32; RUNS_SIZE];
     // There is room for all runs that a table can have, so that this refuses a table that is not in good order, and no other.
-    let listed = table_runs(rows, n, &mut runs);
-    if listed.number != 0 {
-        return listed;
-    }
-    let count = listed.count as usize;
+    let count = table_runs(rows, n, &mut runs)?;
     clear_counts(counts);
-    add_runs(counts, &runs, count);
-    Answer::accepted(0)
+    add_runs(counts, &runs, count as usize);
+    Ok(())
 }

@@ -1,7 +1,8 @@
 -- Defines what the calls with counts answer and leave: RULES, "Addresses per port" and "Order of the checks". Assumes nothing.
-use Rattle.std.specs.Prelude.{cond, List, ℕ, eqb, leb, length}
+use Rattle.std.specs.Prelude.{cond, List, ℕ, eqb, leb, length, Result, Ok, Err}
 use Rattle.promise.specs.Over.{Outcome, outcome, over}
-use Rattle.refusals.specs.Refusals.{wrong_port, no_room, not_in_order, refused, accepted, keeping_at}
+use Rattle.refusals.specs.Refusals.{wrong_port, no_room, not_in_order, refused, accepted, keeping_at, number_of}
+use Rattle.refusals.specs.declared.Refusal.{Refusal}
 use Rattle.refusals.specs.declared.Answer.{Answer}
 use Rattle.routes.specs.Check.{is_port, prefix_fault, route_fault}
 use Rattle.table_rules.specs.Rows.{Layout}
@@ -20,6 +21,11 @@ pub record Counted : Type 0 where
 
 abbrev pub counted : Answer → List ℕ → List ℕ → Counted
 counted answer rows counts = record { answer = answer; rows = rows; counts = counts }
+
+-- what the first checks of an update of a table of n routes answer
+abbrev pub passed : ℕ → Result Unit Refusal → Answer
+passed n (Ok _) = accepted n
+passed n (Err r) = keeping_at (number_of r.fault) r.place n
 
 -- what the message itself, and then its port, is refused with
 abbrev pub message_fault : ℕ → List ℕ → ℕ → ℕ → Answer

@@ -2,7 +2,7 @@
 use mathlib.Core.Path.{◌≡◌, refl, sym, ap, ◌∙◌}
 use mathlib.Core.Bool.{Bool, true, false, not}
 use mathlib.Core.List.{List}
-use Prim.Native.Nat.{ℕ, ◌+◌, ◌-◌, ◌≤◌, ◌<◌}
+use Prim.Native.Nat.{ℕ, ◌+◌, ◌≤◌, ◌<◌}
 use native.Mathlib.Omega.{arith}
 use native.Mathlib.Numerals.{add-one}
 use lib.Dec.{eqb}
@@ -13,15 +13,18 @@ use Rattle.promise.specs.Over.{Outcome, outcome, over}
 use Rattle.promise.proofs.Over.{over_push, over_all}
 use Rattle.lists.specs.Below.{some_below}
 use Rattle.lists.proofs.Below.{some_below_lem}
-use Rattle.refusals.specs.Refusals.{wrong_port, no_room, not_in_order, accepted, keeping_at}
+use Rattle.refusals.specs.Refusals.{wrong_port, no_room, not_in_order, accepted, keeping_at, checked}
 use Rattle.refusals.specs.declared.Answer.{Answer}
+use Rattle.refusals.specs.declared.Refusal.{Refusal}
+use Rattle.refusals.proofs.Numbers.{number_ne0}
+use Rattle.std.proofs.Common.{Result, Ok, Err, is_err}
 use Rattle.routes.specs.Check.{is_port}
 use Rattle.table_rules.specs.Rows.{Layout}
 use Rattle.table_rules.specs.Check.{is_good}
 use Rattle.table_update.specs.Calls.{keeping}
 use Rattle.message_rules.specs.Check.{message_check}
 use Rattle.message_check.specs.Checked.{checked_of}
-use Rattle.message_check.specs.declared.Checked.{Checked}
+use Rattle.message_check.specs.Checked.{Checked}
 use Rattle.message_check.proofs.Whole.{checked_answer}
 use Rattle.count_rules.specs.Tally.{ports, differ}
 use Rattle.count_rules.specs.Counted.{message_fault, counts_of, make_counts, first_check, recounted}
@@ -143,3 +146,13 @@ module _ (message : List ℕ) (port n : ℕ) (checked : Checked) (checked-is : c
 
     pub fault_port : is_port port ≡ false → keeping_at wrong_port 0 n ≡ message_fault 32 message port n
     fault_port ported = sym (rw (is_fine, ported))
+
+-- whether a call was refused, by its answer
+
+pub refused_ne0 : (x : Result Unit Refusal) → is_err x ≡ true → (checked x).number ≡ 0 → ⊥
+refused_ne0 (Ok u) t z = cc
+refused_ne0 (Err r) t z = number_ne0 r.fault z
+
+pub fine_0 : (x : Result Unit Refusal) → is_err x ≡ false → (checked x).number ≡ 0
+fine_0 (Ok u) f = refl
+fine_0 (Err r) f = cc

@@ -18,8 +18,9 @@ use Rattle.routes.specs.Routes.{route_at, route_count}
 use Rattle.octets.specs.Bytes.{Bytes}
 use Rattle.octets.specs.Octets.{prefix_size, len_at, prefix_at}
 use Rattle.octets.specs.Taken.{taken_at}
-use Rattle.octets.specs.declared.Taken.{Taken}
-use Rattle.octets.specs.declared.Taken.TheVariants.{Whole, Long, Cut}
+use Rattle.octets.specs.Taken.{Taken}
+use Rattle.std.proofs.Common.{Ok, Err}
+use Rattle.octets.specs.declared.NoPrefix.TheVariants.{Long, Cut}
 use Rattle.table_rules.specs.Holds.{GoodFor, GoodOrder}
 use Rattle.table_rows.specs.Words.{capacity, row_at}
 use Rattle.message_rules.specs.Message.{marker_size, length_at, type_at, withdrawn_size_at, withdrawn_at, least_size, most_size, update_type, ones, unmarked, field_at, attributes_size_at, announced_at, withdrawn_part, announced_part, withdrawn_in, announced_in}
@@ -52,13 +53,13 @@ module _ (v : View) (made : Answer → v.Seen) (hands_on : (m p : ℕ) → 0 < m
   on_prefixes w part from rest next (suc k) at =
       let after = at + prefix_size (len_at part at) in
       let answer : Taken → v.Seen = λ t. made (cond (eqb (fault_of t) 0) (part_from w part from k after) (refused (fault_of t) (from + at))) in
-      let whole = Whole (prefix_at w part at) in
+      let whole = Ok (prefix_at w part at) in
       let fits = leb (at + prefix_size (len_at part at)) (length part) in
       on_whether v (ltb at (length part)) (at < length part) _ rest
       (λ b. made (cond b (cond (eqb (fault_of (taken_at w part at)) 0) (part_from w part from k after) (refused (fault_of (taken_at w part at)) (from + at))) (accepted 0)))
       (ltb-true at (length part)) (λ e h. omega (arith, ltb-false at (length part) e))
-      (on_test v (leb (len_at part at) w) _ (tells_le (len_at part at) w) long_prefix (from + at) _ (λ b. answer (cond b (cond fits whole Cut) Long))
-      (on_test v fits _ (tells_le (at + prefix_size (len_at part at)) (length part)) bad_message (from + at) _ (λ b. answer (cond b whole Cut))
+      (on_test v (leb (len_at part at) w) _ (tells_le (len_at part at) w) long_prefix (from + at) _ (λ b. answer (cond b (cond fits whole (Err Cut)) (Err Long)))
+      (on_test v fits _ (tells_le (at + prefix_size (len_at part at)) (length part)) bad_message (from + at) _ (λ b. answer (cond b whole (Err Cut)))
       (on_prefixes w part from rest next k after) (hands_on bad_message (from + at) (omega arith)))
       (hands_on long_prefix (from + at) (omega arith)))
       next

@@ -11,9 +11,7 @@ pub fn fill(store: &mut [u16], from: usize, past: usize, entry: u16)
     if store.len() < past {
         return;
     }
-    let mut i = from;
-    while i < past {
+    for i in from..past {
         store[i] = entry;
-        i += 1;
     }
 }

@@ -19,14 +19,13 @@ use Rattle.routes.proofs.Words.{store_whole_lem, length_list}
 
 -- i of n routes are written, and the next one is at an offset
 pub record Filled (w : ℕ) (file list₀ : List ℕ) (n : ℕ) (list : List ℕ) (at i : ℕ) : Type 0 where
-  pub passed : i ≤ n
   pub at_place : at ≡ place_of file i
   pub same : length list ≡ length list₀
   pub written : list ≡ over (list_of_routes (file_route w file) i) list₀
 
 pub filled_none : (w : ℕ) (file list : List ℕ) (n : ℕ) → Filled w file list n list 5 0
 unfolding place_of in_order
-filled_none w file list n = record { passed = omega arith; at_place = refl; same = refl; written = refl }
+filled_none w file list n = record { at_place = refl; same = refl; written = refl }
 
 module _ (w : ℕ) (file list₀ : List ℕ) (n : ℕ) (fits : FitsList w file list₀ n) (list : List ℕ) (at i : ℕ) (so : Filled w file list₀ n list at i) where
   pub filled_entire : i < n → Entire w file at
@@ -44,7 +43,6 @@ module _ (w : ℕ) (file list₀ : List ℕ) (n : ℕ) (fits : FitsList w file l
       → Filled w file list₀ n list' (at + k) (i + 1)
   unfolding read_at
   filled_more h r list' k r-is list-is k-is = record {
-    passed = omega arith;
     at_place = ap₂ (λ (p q : ℕ). p + q) so.at_place (k-is ∙ ap (λ (y : Route). size_for y.len) route_is) ∙ sym (place_more file i);
     same = ap length stored ∙ simp length-set so.same;
     written =
@@ -63,7 +61,5 @@ module _ (w : ℕ) (file list₀ : List ℕ) (n : ℕ) (fits : FitsList w file l
       route_is : r ≡ R i
       route_is = r-is ∙ ap (read_at w file) so.at_place
 
-  pub filled_all : n ≤ i → list ≡ over (list_of_routes (file_route w file) n) list₀
-  filled_all h =
-      let e : i ≡ n = omega (arith, so.passed) in
-      so.written ∙ ap (λ (j : ℕ). over (list_of_routes (file_route w file) j) list₀) e
+  pub filled_all : i ≡ n → list ≡ over (list_of_routes (file_route w file) n) list₀
+  filled_all e = so.written ∙ ap (λ (j : ℕ). over (list_of_routes (file_route w file) j) list₀) e

@@ -2,6 +2,6 @@
 pub mod Unique
 pub mod Steps
 pub mod FillLoop
-pub mod Frame
+pub mod Head
 pub mod ReadCall
 pub mod StepReturns

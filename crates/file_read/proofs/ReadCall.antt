@@ -30,13 +30,12 @@ module _ (w : ℕ) (file list : List ℕ) (checked : Answer) (is : checked ≡ f
     whole : Whole w file checked.count
     whole = rw is (accepted_whole w file (number_is 0 done))
 
-    pub read_short : (a : Answer) → a ≡ refused no_room 0 → length list / 3 < checked.count → outcome a list ≡ read_file w file list
+    pub read_short : length list / 3 < checked.count → outcome (refused no_room 0) list ≡ read_file w file list
     unfolding read_file
-    read_short a a_is h =
+    read_short h =
         let n = (file_check w file).count in
         let e : checked.count ≡ n = ap (λ (x : Answer). x.count) is in
-        ap (λ (x : Answer). outcome x list) a_is
-        ∙ sym (checked_short (file_check w file) _ _ list (number_is 0 done) (omega (arith, length_list (file_route w file) n, e)))
+        sym (checked_short (file_check w file) _ _ list (number_is 0 done) (omega (arith, length_list (file_route w file) n, e)))
 
     pub read_fits : checked.count ≤ length list / 3 → FitsList w file list checked.count
     read_fits h = record { whole = whole; room = omega arith }

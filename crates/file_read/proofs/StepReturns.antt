@@ -1,23 +1,20 @@
 -- A route read at an offset, and the three answers of a step, from what the code has found. Assumes nothing.
 use mathlib.Core.Path.{◌≡◌, sym, ap, ap₂, ◌∙◌}
-use mathlib.Core.Bool.{Bool, ◌||◌}
+use mathlib.Core.Bool.{Bool}
 use mathlib.Core.List.{List}
 use Prim.Native.Nat.{ℕ, ◌+◌}
 use native.Mathlib.Omega.{arith}
-use lib.Dec.{eqb}
+use Rattle.std.proofs.Common.{Some, Ok, Err}
 use borrow.Author.Tests.{ne_eqb}
-use Rattle.bits.specs.Prefix.{precedes}
 use Rattle.refusals.specs.Refusals.{refused}
 use Rattle.routes.specs.Routes.{route}
-use Rattle.refusals.specs.declared.Answer.{Answer}
 use Rattle.routes.proofs.Faults.{chain_fault, chain_rest}
 use Rattle.octets.specs.Octets.{prefix_bytes, prefix_size, len_at, prefix_at}
 use Rattle.file_rules.specs.File.{port_from, read_at, size_for}
 use Rattle.file_rules.specs.Check.{frame_fault, content_fault, Entire}
-use Rattle.file_read.specs.Step.{fault_after, cursor_after, step_at}
+use Rattle.file_read.specs.Step.{rises, fault_after, cursor_after, step_at}
 use Rattle.file_read.specs.declared.step.Cursor.{Cursor}
 use Rattle.routes.specs.declared.Route.{Route}
-use Rattle.file_read.specs.declared.step.Step.TheVariants.{Took, Refused}
 use Rattle.file_rules.proofs.Sound.{frame_fault_rest, frame_none}
 use Rattle.prefix.specs.Prefixes.{prefix}
 use Rattle.prefix.specs.declared.Prefix.{Prefix}
@@ -35,37 +32,35 @@ module _ (w : ℕ) (file : List ℕ) (at len : ℕ) (len_is : len ≡ len_at fil
       ∙ ap₂ (λ (q : Prefix) (n : ℕ). route q.value (len_at file at) n) p_is (port_is ∙ ap (port_from file) size_is)
 
 module _ (w : ℕ) (file : List ℕ) (c : Cursor) (frame : ℕ) (frame_is : frame ≡ frame_fault w file c.count c.at 0) where
-  refused_step : (m : ℕ) (a : Answer) → fault_after w file c ≡ m → (m ≡ 0 → ⊥) → a ≡ refused m c.at → Refused a ≡ step_at w file c
+  refused_step : (m : ℕ) → fault_after w file c ≡ m → (m ≡ 0 → ⊥) → Err (refused m c.at) ≡ step_at w file c
   unfolding step_at
-  refused_step m a e n a_is = ap Refused a_is ∙ sym (rw (e, ne_eqb m 0 n))
+  refused_step m e n = sym (rw (e, ne_eqb m 0 n))
 
   -- 8, 4, 3 (cut)
-  pub step_unframed : (a : Answer) → (frame ≡ 0 → ⊥) → a ≡ refused frame c.at → Refused a ≡ step_at w file c
+  pub step_unframed : (frame ≡ 0 → ⊥) → Err (refused frame c.at) ≡ step_at w file c
   unfolding fault_after
-  step_unframed a n =
-      refused_step frame a (chain_fault (frame_fault w file c.count c.at) (frame_fault_rest w file c.count c.at) frame frame_is _ n) n
+  step_unframed n =
+      refused_step frame (chain_fault (frame_fault w file c.count c.at) (frame_fault_rest w file c.count c.at) frame frame_is _ n) n
 
   module _ (framed : frame ≡ 0) where
     pub step_entire : Entire w file c.at
     step_entire = (frame_none w file c.count c.at 0 (sym frame_is ∙ framed)).1
 
-    module _ (x : Route) (x-is : x ≡ read_at w file c.at) (rises : Bool)
-        (rises-is : rises ≡ (eqb c.count 0 || precedes c.past.value c.past.len x.value x.len))
-        (fault : ℕ) (fault-is : fault ≡ content_fault x rises) where
+    module _ (x : Route) (x-is : x ≡ read_at w file c.at) (up : Bool) (up-is : up ≡ rises c.past x)
+        (fault : ℕ) (fault-is : fault ≡ content_fault x up) where
       fault_after_lem : fault_after w file c ≡ fault
       unfolding fault_after
       fault_after_lem =
           chain_rest (frame_fault w file c.count c.at) (frame_fault_rest w file c.count c.at) frame frame_is _ framed
-          ∙ sym (fault-is ∙ ap (content_fault x) rises-is
-          ∙ ap (λ (y : Route). content_fault y (eqb c.count 0 || precedes c.past.value c.past.len y.value y.len)) x-is)
+          ∙ sym (fault-is ∙ ap (content_fault x) up-is ∙ ap (λ (y : Route). content_fault y (rises c.past y)) x-is)
 
       -- 6, 7
-      pub step_faulty : (a : Answer) → (fault ≡ 0 → ⊥) → a ≡ refused fault c.at → Refused a ≡ step_at w file c
-      step_faulty a n = refused_step fault a fault_after_lem n
+      pub step_faulty : (fault ≡ 0 → ⊥) → Err (refused fault c.at) ≡ step_at w file c
+      step_faulty n = refused_step fault fault_after_lem n
 
       pub step_took : fault ≡ 0 → (k : ℕ) → k ≡ size_for x.len → (p : Prefix) → p ≡ prefix x.value x.len
-          → Took (record { at = c.at + k; count = c.count + 1; past = p }) ≡ step_at w file c
+          → Ok (record { at = c.at + k; count = c.count + 1; past = Some p }) ≡ step_at w file c
       unfolding step_at
       step_took z k k-is p p_is =
-          ap₂ (λ (j : ℕ) (q : Prefix). Took (record { at = c.at + j; count = c.count + 1; past = q })) k-is p_is
-          ∙ sym (rw (fault_after_lem ∙ z) (ap (λ (y : Route). Took (cursor_after c y)) (sym x-is)))
+          ap₂ (λ (j : ℕ) (q : Prefix). Ok (record { at = c.at + j; count = c.count + 1; past = Some q })) k-is p_is
+          ∙ sym (rw (fault_after_lem ∙ z) (ap (λ (y : Route). Ok (cursor_after c y)) (sym x-is)))

@@ -1,30 +1,23 @@
 // One step of the reader at a cursor: the cursor after the route, or the refusal with its place.
-ghost use Rattle.std.specs.Prelude.{◌≡◌, ◌||◌, ◌<◌, eqb, length};
-ghost use Rattle.bits.specs.Prefix.{precedes};
+ghost use Rattle.std.specs.Prelude.{◌≡◌, ◌<◌, length};
+ghost use Rattle.refusals.specs.Refusals.{fault_number};
 ghost use Rattle.file_rules.specs.File.{port_from, read_at};
 ghost use Rattle.file_rules.specs.Check.{frame_fault, content_fault, Entire};
-ghost use Rattle.file_read.specs.Step.{step_at};
+ghost use Rattle.file_read.specs.Step.{rises, stepped, step_at};
 ghost use Rattle.file_read.specs.Needs.{Standing};
 
 use file_rules::route_size;
 use octets::{length_at, number_at, prefix_bytes, prefix_from};
 use prefix::Prefix;
-use refusals::{Answer, LONG_PREFIX, NOT_ABOVE, TOO_MANY_ROUTES, WRONG_PORT, WRONG_SIZE};
+use refusals::{Fault, Refusal};
 use routes::{MOST_ROUTES, Route, is_port};
 
-// Where the reader stands: the offset of the next route, its number from 0, and the prefix of the route before it.
+// Where the reader stands: the offset of the next route, its number from 0, and the prefix of the route before it, if there is one.
 #[derive(Clone, Copy)]
 pub struct Cursor {
     pub at: usize,
     pub count: usize,
-    pub past: Prefix,
-}
-
-// What a step of the reader answers: the cursor after the route, or the refusal with its place.
-#[derive(Clone, Copy)]
-pub enum Step {
-    Took(Cursor),
-    Refused(Answer),
+    pub past: Option<Prefix>,
 }
 
 // The port from its two bytes; those past the end are left out.
@@ -50,62 +43,62 @@ pub(crate) fn read_at(file: &[u8], at: usize) -> Route
     }
 }
 
-// What keeps route i from being read, 0 if nothing does: 8, it is one too many; 4, its length is above 32; 3, it is cut.
-fn frame_fault(file: &[u8], i: usize, at: usize) -> u32
+// Whether route i can be read. Refuses 8, it is one too many; 4, its length is above 32; 3, it is cut.
+fn frame_fault(file: &[u8], i: usize, at: usize) -> Result<(), Fault>
     requires { at < length file.now }
-    ensures { result ≡ frame_fault 32 file.now i at 0 }
+    ensures { fault_number result ≡ frame_fault 32 file.now i at 0 }
 {
     if MOST_ROUTES <= i {
-        return TOO_MANY_ROUTES;
+        return Err(Fault::TooManyRoutes);
     }
     let len = length_at(file, at);
     if 32 < len {
-        return LONG_PREFIX;
+        return Err(Fault::LongPrefix);
     }
     if file.len() < at + route_size(len) {
-        WRONG_SIZE
+        Err(Fault::WrongSize)
     } else {
-        0
+        Ok(())
     }
 }
 
-// What is wrong with a route that was read, 0 if nothing is: 6, its port; 7, not above the one before.
-fn content_fault(route: Route, rises: bool) -> u32
-    ensures { result ≡ content_fault route rises }
+// Whether a route that was read may stand there. Refuses 6, its port; 7, not above the one before.
+fn content_fault(route: Route, rises: bool) -> Result<(), Fault>
+    ensures { fault_number result ≡ content_fault route rises }
 {
     if is_port(route.port) {
-        if rises { 0 } else { NOT_ABOVE }
+        if rises { Ok(()) } else { Err(Fault::NotAbove) }
     } else {
-        WRONG_PORT
+        Err(Fault::WrongPort)
     }
 }
 
-// Whether a route is above the one before the cursor; the first is.
-fn rises_after(c: Cursor, r: Route) -> bool
-    ensures { result ≡ (eqb c.count 0 || precedes c.past.value c.past.len r.value r.len) }
+// Whether a route is above the one before it; the first is.
+fn rises_after(past: Option<Prefix>, r: Route) -> bool
+    ensures { result ≡ rises past r }
 {
-    let past = c.past;
-    (c.count == 0) | past.precedes(r.prefix())
+    match past {
+        Some(before) => before.precedes(r.prefix()),
+        None => true,
+    }
 }
 
 // The route at the cursor and the cursor after it, or its first fault at the offset of its first byte.
-pub(crate) fn step_at(file: &[u8], c: Cursor) -> Step
+pub(crate) fn step_at(file: &[u8], c: Cursor) -> Result<Cursor, Refusal>
     requires { Standing 32 file.now c }
-    ensures { result ≡ step_at 32 file.now c }
+    ensures { stepped result ≡ step_at 32 file.now c }
 {
     let at = c.at;
-    let frame = frame_fault(file, c.count, at);
-    if frame != 0 {
-        return Step::Refused(Answer::refused(frame, at as u32));
+    if let Err(fault) = frame_fault(file, c.count, at) {
+        return Err(fault.at(at as u32));
     }
     let r = read_at(file, at);
-    let fault = content_fault(r, rises_after(c, r));
-    if fault != 0 {
-        return Step::Refused(Answer::refused(fault, at as u32));
+    if let Err(fault) = content_fault(r, rises_after(c.past, r)) {
+        return Err(fault.at(at as u32));
     }
-    Step::Took(Cursor {
+    Ok(Cursor {
         at: at + route_size(r.len),
         count: c.count + 1,
-        past: r.prefix(),
+        past: Some(r.prefix()),
     })
 }

@@ -2,8 +2,10 @@
 use mathlib.Core.Path.{sym, ◌∙◌}
 use Rattle.promise.specs.Determined.{Determined}
 use Rattle.promise.specs.Over.{outcome}
+use Rattle.refusals.specs.Refusals.{answered}
+use Rattle.refusals.proofs.Numbers.{answered_one, told_one}
 use Rattle.file_write.proofs.write_file.Kinds as write_file_kinds
 use Rattle.file_write.proofs.write_file.Reads as write_file_reads
 
 write_file_unique : Determined 2 write_file_kinds.ps write_file_kinds.r write_file_reads.Post (λ κs x s. outcome x s.1.0.now)
-write_file_unique κs a x y s t p q = p ∙ sym q
+write_file_unique κs a x y s t p q = told_one answered answered_one x y _ _ (p ∙ sym q)

@@ -38,11 +38,10 @@ module _ (w : ℕ) (list file : List ℕ) (checked : Answer) (is : checked ≡ l
       length_file =
           length-append (head_of (length body)) body ∙ omega (arith, length_head (length body), size_is.is)
 
-      pub write_short : (a : Answer) → a ≡ refused no_room 0 → length file < head_size + size → outcome a file ≡ write_file w list file
+      pub write_short : length file < head_size + size → outcome (refused no_room 0) file ≡ write_file w list file
       unfolding write_file
-      write_short a a_is h =
-          ap (λ (x : Answer). outcome x file) a_is
-          ∙ sym (checked_short (list_check w list) (file_of w (route_at list) (route_count list)) _ file listed (omega (arith, length_file)))
+      write_short h =
+          sym (checked_short (list_check w list) (file_of w (route_at list) (route_count list)) _ file listed (omega (arith, length_file)))
 
       module _ (room : head_size + size ≤ length file) where
         module _ (file' : List ℕ) (head_is : file' ≡ over (head_of size) file) where
@@ -52,10 +51,9 @@ module _ (w : ℕ) (list file : List ℕ) (checked : Answer) (is : checked ≡ l
             room = omega (arith, ap length head_is ∙ length_over_head file size (omega arith), size_is.is);
           }
 
-          pub write_all : (file'' : List ℕ) (a : Answer) → file'' ≡ stored file' head_size body → a ≡ accepted (head_size + size)
-              → outcome a file'' ≡ write_file w list file
-          write_all file'' a body_is a_is =
-              ap₂ outcome (a_is ∙ ap accepted (sym length_file))
+          pub write_all : (file'' : List ℕ) → file'' ≡ stored file' head_size body → outcome (accepted (head_size + size)) file'' ≡ write_file w list file
+          write_all file'' body_is =
+              ap₂ outcome (ap accepted (sym length_file))
               (body_is ∙ ap (λ (f : List ℕ). stored f head_size body) head_is
               ∙ stored_over (head_of size) file body head_size (length_head size)
               ∙ ap (λ (n : ℕ). over (head_of n ++ body) file) size_is.is)

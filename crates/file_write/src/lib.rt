@@ -3,6 +3,7 @@
 
 ghost use Rattle.std.specs.Prelude.{◌≡◌, ◌+◌, ◌≤◌, length};
 ghost use Rattle.promise.specs.Over.{over, outcome};
+ghost use Rattle.refusals.specs.Refusals.{answered};
 ghost use Rattle.routes.specs.Routes.{route_at, route_count};
 ghost use Rattle.routes.specs.Check.{list_check};
 ghost use Rattle.octets.specs.Octets.{stored};
@@ -12,7 +13,7 @@ ghost use Rattle.file_write.specs.Needs.{BodySize, FitsFile};
 
 use file_rules::{HEAD_SIZE, VERSION, route_size};
 use octets::{prefix_size, put_number, put_prefix};
-use refusals::{Answer, NO_ROOM};
+use refusals::{Fault, Refusal};
 use routes::{ROUTE_SIZE, Route, check_list, route_at};
 
 // Stores the bytes of a route from an offset on.
@@ -29,13 +30,10 @@ fn body_size(list: &[u32]) -> usize
     requires { (list_check 32 list.now).number ≡ 0 }
     ensures { BodySize 32 list.now result }
 {
-    let n = list.len() / ROUTE_SIZE;
     let mut size: usize = 0;
-    let mut i: usize = 0;
-    while i < n {
+    for i in 0..list.len() / ROUTE_SIZE {
         let r = route_at(list, i);
         size += route_size(r.len);
-        i += 1;
     }
     size
 }
@@ -54,31 +52,25 @@ fn put_body(list: &[u32], file: &mut [u8])
     requires { FitsFile 32 list.now file.old }
     ensures { file.new ≡ stored file.old head_size (body_of 32 (route_at list.now) (route_count list.now)) }
 {
-    let n = list.len() / ROUTE_SIZE;
     let mut at = HEAD_SIZE;
-    let mut i: usize = 0;
-    while i < n {
+    for i in 0..list.len() / ROUTE_SIZE {
         let r = route_at(list, i);
         put_bytes(file, at, r);
         at += route_size(r.len);
-        i += 1;
     }
 }
 
 // Writes a list as a route file; answers how many bytes. Refuses as the list check does: 3 and 8 at place 0, then the first route
 // that is at fault, by its number, with its first fault of 4, 5, 6, 7; last 9, the room for the file is too short.
-pub fn write_file(list: &[u32], file: &mut [u8]) -> Answer
-    ensures { outcome result file.new ≡ write_file 32 list.now file.old }
+pub fn write_file(list: &[u32], file: &mut [u8]) -> Result<u32, Refusal>
+    ensures { outcome (answered result) file.new ≡ write_file 32 list.now file.old }
 {
-    let checked = check_list(list);
-    if checked.number != 0 {
-        return checked;
-    }
+    check_list(list)?;
     let size = body_size(list);
     if file.len() < HEAD_SIZE + size {
-        return Answer::refused(NO_ROOM, 0);
+        return Err(Fault::NoRoom.at(0));
     }
     put_head(file, size);
     put_body(list, file);
-    Answer::accepted((HEAD_SIZE + size) as u32)
+    Ok((HEAD_SIZE + size) as u32)
 }

@@ -5,6 +5,8 @@ use Rattle.refusals.specs.declared.found.Found.{Found}
 use Rattle.refusals.specs.declared.found.Reached.{Reached}
 use Rattle.refusals.specs.declared.found.Lost.{Lost}
 use Rattle.refusals.proofs.Numbers.{number_ne0, number_one}
+use Rattle.refusals.specs.Refusals.{answered}
+use Rattle.refusals.proofs.Numbers.{told_one, answered_one}
 use Rattle.promise.specs.Determined.{Determined}
 use Rattle.promise.specs.Over.{outcome}
 use Rattle.image_lookup.proofs.lookup.Kinds as lookup_kinds
@@ -39,4 +41,4 @@ lookup_4_unique : Determined 2 lookup_4_kinds.ps lookup_4_kinds.r lookup_4_reads
 lookup_4_unique κs a x y s t p q = found_one x y (p ∙ sym q)
 
 lookup_many_unique : Determined 4 lookup_many_kinds.ps lookup_many_kinds.r lookup_many_reads.Post (λ κs x s. outcome x s.1.1.1.1.0.now)
-lookup_many_unique κs a x y s t p q = p ∙ sym q
+lookup_many_unique κs a x y s t p q = told_one answered answered_one x y _ _ (p ∙ sym q)

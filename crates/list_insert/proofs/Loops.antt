@@ -4,7 +4,6 @@ use mathlib.Core.Bool.{Bool, true, false, cond}
 use mathlib.Core.List.{List}
 use Prim.Native.Nat.{ℕ, suc, ◌+◌, ◌-◌, ◌<◌, ◌≤◌}
 use native.Mathlib.Omega.{arith}
-use lib.ListN.{length}
 use borrow.Author.Tests.{le-leb, lt-ltb}
 use Rattle.routes.specs.Routes.{route_at, route_count, store_route}
 use Rattle.routes.specs.declared.Route.{Route}
@@ -23,14 +22,12 @@ module _ (words : List ℕ) (at middle end : ℕ) (q : Route) {b : Bool} (is : b
 -- the loop's invariant: what is left to do from place i down is the whole
 pub record Sinking (lent : List ℕ) (at end : ℕ) (q : Route) (words : List ℕ) (i : ℕ) : Type 0 where
   pub low : at ≤ i
-  pub high : i ≤ end
-  pub kept : length words ≡ length lent
   pub rest : sunk words at (i - at) q ≡ sunk lent at (end - at) q
 
-pub sinking_last : (words : List ℕ) (at i : ℕ) (q : Route) → i ≡ at → store_route words i q ≡ sunk words at (i - at) q
+pub sinking_last : (words : List ℕ) (at i : ℕ) (q : Route) → i ≤ at → store_route words at q ≡ sunk words at (i - at) q
 unfolding sunk
 sinking_last words at i q e =
-    let z : i - at ≡ 0 = omega arith in rw z (ap (λ (j : ℕ). store_route words j q) e)
+    let z : i - at ≡ 0 = omega arith in rw z refl
 
 -- r is the route before place i, b whether it stands before q
 module _ (words : List ℕ) (at i : ℕ) (q : Route) (more : at < i) (r : Route) (is : r ≡ route_at words (i - 1))
@@ -53,15 +50,15 @@ module _ (words : List ℕ) (at i : ℕ) (q : Route) (more : at < i) (r : Route)
   sinking_next t = sym (by_last ∙ ap (λ (t : Bool). cond t (store_route words i q) (sunk (store_route words i r) at (i - 1 - at) q)) t)
 
 -- the same from the free place up
-pub record Rising (lent : List ℕ) (at end : ℕ) (q : Route) (words : List ℕ) (i : ℕ) : Type 0 where
-  pub low : at ≤ i
-  pub high : i < end
-  pub kept : length words ≡ length lent
-  pub rest : risen words i (end - (i + 1)) q ≡ risen lent at (end - (at + 1)) q
+abbrev pub Rising : List ℕ → ℕ → ℕ → Route → List ℕ → ℕ → Type 0
+Rising lent at end q words i = risen words i (end - (i + 1)) q ≡ risen lent at (end - (at + 1)) q
 
-pub rising_last : (words : List ℕ) (i end : ℕ) (q : Route) → end ≤ i + 1 → store_route words i q ≡ risen words i (end - (i + 1)) q
+pub rising_last : (words : List ℕ) (i end : ℕ) (q : Route) → i + 1 ≡ end → store_route words (end - 1) q ≡ risen words i (end - (i + 1)) q
 unfolding risen
-rising_last words i end q h = let z : end - (i + 1) ≡ 0 = omega arith in rw z refl
+rising_last words i end q e =
+    let z : end - (i + 1) ≡ 0 = omega arith in
+    let y : end - 1 ≡ i = omega arith in
+    rw (z, y) refl
 
 -- r is the route after place i, b whether it stands before q
 module _ (words : List ℕ) (i end : ℕ) (q : Route) (more : i + 1 < end) (r : Route) (is : r ≡ route_at words (i + 1))

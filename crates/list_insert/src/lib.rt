@@ -16,7 +16,7 @@ fn stands_before(a: Route, b: Route) -> bool
     a.prefix().precedes(b.prefix())
 }
 
-// Route i of a list, which is lent whole.
+// Route i of a list, which is lent whole. The tests of `routes::route_at` and `routes::store_route` made a saving a fifth slower.
 fn whole_route(list: &[u32], i: usize) -> Route
     requires { i * 3 + 3 ≤ length list.now }
     ensures { result ≡ route_at list.now i }
@@ -45,17 +45,15 @@ fn sink_route(list: &mut [u32], at: usize, end: usize, q: Route)
     requires { (at ≤ end) × (end * 3 + 3 ≤ length list.old) }
     ensures { list.new ≡ sunk list.old at (end - at) q }
 {
-    let mut i = end;
-    while at < i {
-        let before = whole_route(list, i - 1);
+    for i in (at..end).rev() {
+        let before = whole_route(list, i);
         if stands_before(before, q) {
-            store_whole(list, i, q);
+            store_whole(list, i + 1, q);
             return;
         }
-        store_whole(list, i, before);
-        i -= 1;
+        store_whole(list, i + 1, before);
     }
-    store_whole(list, i, q);
+    store_whole(list, at, q);
 }
 
 // Puts a route into its place among the routes from `at`, which is free, up to `end`: each that stands before it moves down by
@@ -64,18 +62,15 @@ fn rise_route(list: &mut [u32], at: usize, end: usize, q: Route)
     requires { (at < end) × (end * 3 ≤ length list.old) }
     ensures { list.new ≡ risen list.old at (end - (at + 1)) q }
 {
-    let mut i = at;
-    while i + 1 < end {
+    for i in at..end - 1 {
         let after = whole_route(list, i + 1);
-        if stands_before(after, q) {
-            store_whole(list, i, after);
-            i += 1;
-            continue;
+        if !stands_before(after, q) {
+            store_whole(list, i, q);
+            return;
         }
-        store_whole(list, i, q);
-        return;
+        store_whole(list, i, after);
     }
-    store_whole(list, i, q);
+    store_whole(list, end - 1, q);
 }
 
 // Whether the routes from `at` up to `middle`, which ascend, all stand before a route.

@@ -9,12 +9,13 @@ ghost use Rattle.count_rules.specs.Counted.{make_counts, counted_on};
 ghost use Rattle.refusals.specs.Reply.{reply};
 ghost use Rattle.maftehon.specs.Reply.{replied_place, booked, replied_book};
 
+use refusals::Answer;
 use refusals::reply::{counted, placed};
 
 pub fn mft_counts_make(rows: &[u32], n: u32, counts: &mut [u64], answer: &mut [u32; 1]) -> u32
     ensures { outcome (reply result answer.new) counts.new ≡ replied_place (make_counts five_words 32 rows.now n counts.old) }
 {
-    placed(count_make::make(rows, n, counts), answer)
+    placed(Answer::from(count_make::make(rows, n, counts)), answer)
 }
 
 pub fn mft_counted_announce(
@@ -29,7 +30,10 @@ pub fn mft_counted_announce(
     ensures { booked (reply result answer.new) rows.new counts.new ≡ replied_book (counted_on five_words 32 rows.old n counts.old (single (announcing (route value length port)))) }
 {
     counted(
-        count_update::announce(rows, n, value, length, port, counts),
+        Answer::updated(
+            n,
+            count_update::announce(rows, n, value, length, port, counts),
+        ),
         answer,
     )
 }
@@ -45,7 +49,7 @@ pub fn mft_counted_withdraw(
     ensures { booked (reply result answer.new) rows.new counts.new ≡ replied_book (counted_on five_words 32 rows.old n counts.old (single (withdrawing value length))) }
 {
     counted(
-        count_update::withdraw(rows, n, value, length, counts),
+        Answer::updated(n, count_update::withdraw(rows, n, value, length, counts)),
         answer,
     )
 }
@@ -60,5 +64,8 @@ pub fn mft_counted_message(
 ) -> u32
     ensures { booked (reply result answer.new) rows.new counts.new ≡ replied_book (counted_on five_words 32 rows.old n counts.old (applying message.now port)) }
 {
-    counted(count_update::apply(message, port, rows, n, counts), answer)
+    counted(
+        Answer::updated(n, count_update::apply(message, port, rows, n, counts)),
+        answer,
+    )
 }

@@ -8,6 +8,9 @@ ghost use Rattle.maftehon.specs.Reply.{imaged, replied_image};
 ghost use Rattle.refusals.specs.Reply.{reply, looked, replied};
 
 use crate::replies::built;
+use image_build::Built;
+use refusals::Answer;
+use refusals::found::Found;
 use refusals::reply::{counted, looked};
 
 pub fn mft_image_build(
@@ -19,7 +22,10 @@ pub fn mft_image_build(
 ) -> u32
     ensures { imaged (reply result answer.new) nodes.new ports.new ≡ replied_image (build_image 32 stride list.now nodes.old ports.old) }
 {
-    built(image_build::build(stride, list, nodes, ports), answer)
+    built(
+        Built::from(image_build::build(stride, list, nodes, ports)),
+        answer,
+    )
 }
 
 pub fn mft_image_lookup(
@@ -31,25 +37,37 @@ pub fn mft_image_lookup(
 ) -> u32
     ensures { reply result answer.new ≡ looked (lookup_words 32 stride nodes.now ports.now address) }
 {
-    looked(image_lookup::lookup(stride, nodes, ports, address), answer)
+    looked(
+        Found::from(image_lookup::lookup(stride, nodes, ports, address)),
+        answer,
+    )
 }
 
 pub fn mft_image_lookup_1(nodes: &[u32], ports: &[u16], address: u32, answer: &mut [u32; 3]) -> u32
     ensures { reply result answer.new ≡ looked (lookup_words 32 1 nodes.now ports.now address) }
 {
-    looked(image_lookup::lookup_1(nodes, ports, address), answer)
+    looked(
+        Found::from(image_lookup::lookup_1(nodes, ports, address)),
+        answer,
+    )
 }
 
 pub fn mft_image_lookup_2(nodes: &[u32], ports: &[u16], address: u32, answer: &mut [u32; 3]) -> u32
     ensures { reply result answer.new ≡ looked (lookup_words 32 2 nodes.now ports.now address) }
 {
-    looked(image_lookup::lookup_2(nodes, ports, address), answer)
+    looked(
+        Found::from(image_lookup::lookup_2(nodes, ports, address)),
+        answer,
+    )
 }
 
 pub fn mft_image_lookup_4(nodes: &[u32], ports: &[u16], address: u32, answer: &mut [u32; 3]) -> u32
     ensures { reply result answer.new ≡ looked (lookup_words 32 4 nodes.now ports.now address) }
 {
-    looked(image_lookup::lookup_4(nodes, ports, address), answer)
+    looked(
+        Found::from(image_lookup::lookup_4(nodes, ports, address)),
+        answer,
+    )
 }
 
 pub fn mft_image_lookup_many(
@@ -63,7 +81,7 @@ pub fn mft_image_lookup_many(
     ensures { outcome (reply result answer.new) out.new ≡ replied (many_words 32 stride nodes.now ports.now addresses.now out.old) }
 {
     counted(
-        image_lookup::many::lookup_many(stride, nodes, ports, addresses, out),
+        Answer::from(image_lookup::many::lookup_many(stride, nodes, ports, addresses, out)),
         answer,
     )
 }

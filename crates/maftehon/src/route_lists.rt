@@ -6,6 +6,7 @@ ghost use Rattle.routes.specs.Scan.{list_scan};
 ghost use Rattle.runs_rules.specs.Listing.{list_runs};
 ghost use Rattle.refusals.specs.Reply.{reply, placed, counted, replied};
 
+use refusals::Answer;
 use refusals::reply::{counted, placed};
 use routes::{check_list, scan_list};
 use runs_write::list_runs;
@@ -13,17 +14,17 @@ use runs_write::list_runs;
 pub fn mft_list_check(list: &[u32], answer: &mut [u32; 1]) -> u32
     ensures { reply result answer.new ≡ placed (list_check 32 list.now) }
 {
-    placed(check_list(list), answer)
+    placed(Answer::from(check_list(list)), answer)
 }
 
 pub fn mft_list_scan(list: &[u32], address: u32, answer: &mut [u32; 2]) -> u32
     ensures { reply result answer.new ≡ counted (list_scan 32 list.now address) }
 {
-    counted(scan_list(list, address), answer)
+    counted(Answer::from(scan_list(list, address)), answer)
 }
 
 pub fn mft_list_runs(list: &[u32], runs: &mut [u32], answer: &mut [u32; 2]) -> u32
     ensures { outcome (reply result answer.new) runs.new ≡ replied (list_runs 32 list.now runs.old) }
 {
-    counted(list_runs(list, runs), answer)
+    counted(Answer::from(list_runs(list, runs)), answer)
 }

@@ -9,8 +9,11 @@ ghost use Rattle.maftehon.specs.Reply.{segmented, replied_segments, located};
 ghost use Rattle.refusals.specs.Reply.{reply, looked, replied};
 
 use crate::replies::{blocked, located};
+use refusals::Answer;
+use refusals::found::Found;
 use refusals::reply::{counted, looked};
 use segment_entries::part_of;
+use segment_rules::Built;
 
 pub fn mft_segments_build(
     list: &[u32],
@@ -23,7 +26,7 @@ pub fn mft_segments_build(
     ensures { segmented (reply result answer.new) (stores first.new packed.new plain.new last.new) ≡ replied_segments (build_segments list.now (stores first.old packed.old plain.old last.old)) }
 {
     blocked(
-        segment_build::build(list, first, packed, plain, last),
+        Built::from(segment_build::build(list, first, packed, plain, last)),
         answer,
     )
 }
@@ -39,7 +42,7 @@ pub fn mft_segments_lookup(
     ensures { reply result answer.new ≡ looked (lookup_in first.now packed.now plain.now last.now address) }
 {
     looked(
-        segment_lookup::lookup(first, packed, plain, last, address),
+        Found::from(segment_lookup::lookup(first, packed, plain, last, address)),
         answer,
     )
 }
@@ -56,7 +59,7 @@ pub fn mft_segments_lookup_many(
     ensures { outcome (reply result answer.new) out.new ≡ replied (lookup_many (lookup_in first.now packed.now plain.now last.now) addresses.now out.old) }
 {
     counted(
-        segment_lookup::many::lookup_many(first, packed, plain, last, addresses, out),
+        Answer::from(segment_lookup::many::lookup_many(first, packed, plain, last, addresses, out)),
         answer,
     )
 }

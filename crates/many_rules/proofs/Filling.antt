@@ -6,7 +6,7 @@ use Prim.Native.Nat.{ℕ, ◌+◌, ◌%◌, ◌^◌, ◌≤◌, ◌<◌}
 use native.Mathlib.Omega.{arith}
 use native.Mathlib.Nat.{mod-eq_of_lt}
 use lib.Dec.{eqb}
-use lib.ListN.{length, get_or, set, length-set}
+use lib.ListN.{length, set, length-set}
 use Rattle.promise.specs.Over.{outcome, over}
 use Rattle.lists.specs.Below.{some_below}
 use Rattle.lists.specs.Numbered.{list_of}
@@ -15,7 +15,7 @@ use Rattle.many_rules.specs.Many.{unfound, element, told, element_at, elements, 
 use Rattle.many_rules.proofs.Many.{elements_push, some_unfound_push, many_done}
 
 -- a port that 16 bits hold is not cut
-element_whole : (x : Found) → x.port < 2 ^ 16 → element x % 2 ^ 16 ≡ element x
+pub element_whole : (x : Found) → x.port < 2 ^ 16 → element x % 2 ^ 16 ≡ element x
 element_whole x h = mod-eq_of_lt (by (eqb x.number 0))
   where
     by : (b : Bool) → cond b x.port unfound < 2 ^ 16
@@ -34,20 +34,16 @@ module _ (look : ℕ → Found) (addresses out₀ : List ℕ) where
   unfolding list_of some_below
   filling_none = record { passed = omega arith; same = refl; written = refl; told = refl }
 
-  pub filling_more : (out : List ℕ) (some : Bool) (i : ℕ) (x : Found) (e : ℕ) → length addresses ≤ length out₀ → Filling out some i
-      → i < length addresses → x ≡ look (get_or addresses i 0) → (look (get_or addresses i 0)).port < 2 ^ 16 → e ≡ element x % 2 ^ 16
-      → Filling (set out i e) (eqb e unfound || some) (i + 1)
-  filling_more out some i x e room f l is small stored =
-      let at : e ≡ element_at look addresses i =
-      stored ∙ ap (λ (y : Found). element y % 2 ^ 16) is ∙ element_whole (look (get_or addresses i 0)) small in
-      record {
-        passed = omega arith;
-        same = length-set out i e ∙ f.same;
-        written =
-            ap (λ (xs : List ℕ). set xs i e) f.written ∙ ap (λ (y : ℕ). set (over (elements look addresses i) out₀) i y) at
-            ∙ elements_push look addresses out₀ i (omega arith);
-        told = ap (λ (b : Bool). eqb e unfound || b) f.told ∙ ap (λ (y : ℕ). eqb y unfound || some_unfound look addresses i) at ∙ sym (some_unfound_push look addresses i);
-      }
+  pub filling_more : (out : List ℕ) (some : Bool) (i e : ℕ) → length addresses ≤ length out₀ → Filling out some i
+      → i < length addresses → e ≡ element_at look addresses i → Filling (set out i e) (eqb e unfound || some) (i + 1)
+  filling_more out some i e room f l at = record {
+    passed = omega arith;
+    same = length-set out i e ∙ f.same;
+    written =
+        ap (λ (xs : List ℕ). set xs i e) f.written ∙ ap (λ (y : ℕ). set (over (elements look addresses i) out₀) i y) at
+        ∙ elements_push look addresses out₀ i (omega arith);
+    told = ap (λ (b : Bool). eqb e unfound || b) f.told ∙ ap (λ (y : ℕ). eqb y unfound || some_unfound look addresses i) at ∙ sym (some_unfound_push look addresses i);
+  }
 
   pub filling_all : (out : List ℕ) (some : Bool) (i : ℕ) → length addresses ≤ length out₀ → Filling out some i → length addresses ≤ i
       → outcome (told some) out ≡ lookup_many look addresses out₀

@@ -1,5 +1,5 @@
 -- Defines many lookups in one call, over any single lookup: RULES, "Many lookups in one call". Assumes nothing.
-use Rattle.std.specs.Prelude.{Bool, cond, List, ℕ, eqb, leb, length, get_or}
+use Rattle.std.specs.Prelude.{Bool, cond, List, ℕ, ◌≡◌, ◌<◌, ◌^◌, eqb, leb, length, get_or}
 use Rattle.promise.specs.Over.{Outcome, outcome, over}
 use Rattle.lists.specs.Below.{some_below}
 use Rattle.lists.specs.Numbered.{list_of}
@@ -14,6 +14,10 @@ unfound = 65535
 -- "the port of the single lookup", or that
 abbrev pub element : Found → ℕ
 element x = cond (eqb x.number 0) x.port unfound
+
+-- what a call may answer at an address is what that lookup leaves in its element
+abbrev pub Gives : (ℕ → ℕ → Type 0) → (ℕ → Found) → Type 0
+Gives post look = (address e : ℕ) → address < 2 ^ 32 → post address e → e ≡ element (look address)
 
 -- "answer: .. 1 if some element is 65,535, else 0"
 abbrev pub told : Bool → Answer

@@ -1,32 +1,54 @@
-// Many lookups in one call, over any lookup: definitions and laws, and the little code that the two calls share.
+// Many lookups in one call, over any lookup: definitions and laws, and the loop that every such call runs.
 #![tactic(auto)]
 
-ghost use Rattle.std.specs.Prelude.{◌≡◌, ◌%◌, ◌^◌};
-ghost use Rattle.many_rules.specs.Many.{element, told};
+ghost use Rattle.std.specs.Prelude.{◌≡◌, ℕ, ◌%◌, ◌^◌};
+ghost use Rattle.promise.specs.Over.{outcome};
+ghost use Rattle.refusals.specs.Refusals.{found_of, accepted, answered};
+ghost use Rattle.refusals.specs.declared.found.Found.{Found};
+ghost use Rattle.many_rules.specs.Many.{element, told, lookup_many, Gives};
 
-use refusals::Answer;
-use refusals::found::Found;
+use refusals::found::{Lost, Reached};
+use refusals::{Fault, Refusal};
 
 // The element of an address whose lookup is refused. No port is as large.
 pub const UNFOUND: u16 = 65535;
 
 // What a lookup leaves in its element: its port, or 65,535 where it is refused. A port that 16 bits cannot hold, which no lookup
 // answers, is cut to them.
-pub fn element_of(x: Found) -> u16
-    ensures { result ≡ element x % 2 ^ 16 }
+pub fn element_of(x: Result<Reached, Lost>) -> u16
+    ensures { result ≡ element (found_of x) % 2 ^ 16 }
 {
-    if x.number != 0 {
-        return UNFOUND;
+    match x {
+        Ok(reached) => (reached.port % 65536) as u16,
+        Err(_) => UNFOUND,
     }
-    (x.port % 65536) as u16
 }
 
 // What the call answers: 1 if some element is 65,535, else 0.
-pub fn told(some: bool) -> Answer
-    ensures { result ≡ told some }
+pub fn told(some: bool) -> u32
+    ensures { accepted result ≡ told some }
 {
-    if some {
-        return Answer::accepted(1);
+    u32::from(some)
+}
+
+// Looks each address up by `element`, which gives what its lookup leaves, and stores that in its element of `out`. Answers whether
+// some element is 65,535. Refuses 9 at place 0 where `out` is shorter than the addresses.
+pub fn lookup_many<F: Fn(u32) -> u16>(
+    element: F,
+    addresses: &[u32],
+    out: &mut [u16],
+) -> Result<u32, Refusal>
+    requires { F.IsAlwaysCallable element }
+    ensures { (look : ℕ → Found) → Gives (F.post element) look → outcome (answered result) out.new ≡ lookup_many look addresses.now out.old }
+{
+    if out.len() < addresses.len() {
+        return Err(Fault::NoRoom.at(0));
     }
-    Answer::accepted(0)
+    let mut some = false;
+    for i in 0..addresses.len() {
+        let found = element(addresses[i]);
+        some = (found == UNFOUND) | some;
+        out[i] = found;
+    }
+    Ok(told(some))
 }

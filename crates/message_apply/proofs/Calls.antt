@@ -18,7 +18,7 @@ use Rattle.message_rules.specs.Check.{message_check, Fits}
 use Rattle.message_rules.proofs.Heads.{message_fits}
 use Rattle.message_check.specs.Checked.{checked_of}
 use Rattle.message_check.proofs.Whole.{checked_answer}
-use Rattle.message_check.specs.declared.Checked.{Checked}
+use Rattle.message_check.specs.Checked.{Checked}
 use Rattle.message_calls.specs.Apply.{applied_to, apply_into}
 use Rattle.message_apply.specs.Needs.{Applies}
 

@@ -1,6 +1,6 @@
 -- Laws of the call's code.
 pub mod Ones
-pub mod Walks
+pub mod Folding
 pub mod Counted
 pub mod Calls
 pub mod Unique

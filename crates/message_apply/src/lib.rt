@@ -4,6 +4,7 @@
 
 ghost use Rattle.std.specs.Prelude.{◌≡◌, ◌+◌, ◌≤◌, ◌<◌, length};
 ghost use Rattle.promise.specs.Over.{outcome};
+ghost use Rattle.refusals.specs.Refusals.{updated};
 ghost use Rattle.table_rows.specs.Words.{five_words};
 ghost use Rattle.message_rules.specs.Message.{prefixes_in};
 ghost use Rattle.message_calls.specs.Named.{route_to, holds};
@@ -13,9 +14,9 @@ ghost use Rattle.message_apply.specs.Needs.{table_as, noted_as, Small, seen_size
 
 use message_check::check_message;
 use message_rules::WITHDRAWN_AT;
-use octets::{Taken, prefix_size, take_prefix};
+use message_rules::prefixes::Prefixes;
 use prefix::Prefix;
-use refusals::{Answer, NO_ROOM, NOT_IN_ORDER, WRONG_PORT};
+use refusals::{Fault, Refusal};
 use routes::{Route, is_port};
 use table_change::refilling::take_route;
 use table_change::sinking::{is_held, put_route};
@@ -25,7 +26,7 @@ use table_rows::capacity_of;
 const SEEN_SIZE: usize = 20480;
 
 // Of the prefixes met: how many are different, and how many of those the table holds.
-#[derive(Clone, Copy)]
+#[derive(Clone, Copy, Debug, Default, PartialEq, Eq)]
 pub struct Tally {
     pub met: u32,
     pub hits: u32,
@@ -69,20 +70,8 @@ fn note_part(part: &[u8], rows: &[u32], n: u32, seen: &mut [u32], port: u32, sta
     ensures { noted_as seen.new result ≡ noted five_words 32 (holds 32 (five_words.get rows.now) n) port (noted_as seen.old start) (prefixes_in 32 part.now) }
 {
     let mut t = start;
-    let mut at: usize = 0;
-    while at < part.len() {
-        match take_prefix(part, at) {
-            Taken::Whole(p) => {
-                t = note_one(rows, n, seen, port, t, p);
-                at += prefix_size(p.len);
-            }
-            Taken::Long => {
-                return t;
-            }
-            Taken::Cut => {
-                return t;
-            }
-        }
+    for p in Prefixes::new(part) {
+        t = note_one(rows, n, seen, port, t, p);
     }
     t
 }
@@ -107,20 +96,8 @@ fn drop_part(part: &[u8], seen: &[u32], met: u32, rows: &mut [u32], count: u32) 
     ensures { table_as rows.new result ≡ dropped five_words 32 (holds 32 (five_words.get seen.now) met) (table_as rows.old count) (prefixes_in 32 part.now) }
 {
     let mut n = count;
-    let mut at: usize = 0;
-    while at < part.len() {
-        match take_prefix(part, at) {
-            Taken::Whole(p) => {
-                n = drop_one(seen, met, rows, n, p);
-                at += prefix_size(p.len);
-            }
-            Taken::Long => {
-                return n;
-            }
-            Taken::Cut => {
-                return n;
-            }
-        }
+    for p in Prefixes::new(part) {
+        n = drop_one(seen, met, rows, n, p);
     }
     n
 }
@@ -145,20 +122,8 @@ fn add_part(part: &[u8], port: u32, rows: &mut [u32], count: u32) -> u32
     ensures { table_as rows.new result ≡ added five_words 32 port (table_as rows.old count) (prefixes_in 32 part.now) }
 {
     let mut n = count;
-    let mut at: usize = 0;
-    while at < part.len() {
-        match take_prefix(part, at) {
-            Taken::Whole(p) => {
-                n = add_one(port, rows, n, p);
-                at += prefix_size(p.len);
-            }
-            Taken::Long => {
-                return n;
-            }
-            Taken::Cut => {
-                return n;
-            }
-        }
+    for p in Prefixes::new(part) {
+        n = add_one(port, rows, n, p);
     }
     n
 }
@@ -172,47 +137,41 @@ fn apply_parts(
     rows: &mut [u32],
     n: u32,
     seen: &mut [u32],
-) -> Answer
+) -> Result<u32, Refusal>
     requires { Applies port gone.now come.now rows.old n × (seen_size ≤ length seen.old) }
-    ensures { outcome result rows.new ≡ applied_to five_words 32 port (prefixes_in 32 gone.now) (prefixes_in 32 come.now) rows.old n }
+    ensures { outcome (updated n result) rows.new ≡ applied_to five_words 32 port (prefixes_in 32 gone.now) (prefixes_in 32 come.now) rows.old n }
 {
     let announced = note_part(come, rows, n, seen, port, Tally { met: 0, hits: 0 });
     let named = note_part(gone, rows, n, seen, port, announced);
     if capacity_of(rows) + named.hits < n + announced.met {
-        return Answer::keeping(NO_ROOM, 0, n);
+        return Err(Fault::NoRoom.at(0));
     }
     // Now the announced ones alone: they are not to be withdrawn.
     let kept = note_part(come, rows, n, seen, port, Tally { met: 0, hits: 0 });
     let left = drop_part(gone, seen, kept.met, rows, n);
-    Answer::accepted(add_part(come, port, rows, left))
+    Ok(add_part(come, port, rows, left))
 }
 
 // Applies a message to a table of n routes, whole or not at all; the count is the new n. Refuses as the check of the message does, then at
 // place 0: 6, the port is outside 1..4094; 11, the table is not in good order; 9, the final set exceeds the capacity. It needs 80 KB of
 // stack for the prefixes of the message.
-pub fn apply(message: &[u8], port: u32, rows: &mut [u32], n: u32) -> Answer
-    ensures { outcome result rows.new ≡ apply_into five_words 32 message.now port rows.old n }
+pub fn apply(message: &[u8], port: u32, rows: &mut [u32], n: u32) -> Result<u32, Refusal>
+    ensures { outcome (updated n result) rows.new ≡ apply_into five_words 32 message.now port rows.old n }
 {
-    let checked = check_message(message);
-    let answer = checked.answer;
-    if answer.number != 0 {
-        return Answer::keeping(answer.number, answer.place, n);
+    let parts = check_message(message)?;
+    if !is_port(port) {
+        return Err(Fault::WrongPort.at(0));
     }
-    if is_port(port) {
-        if table_lookup::is_good(rows, n) {
-            let end = checked.end;
-            let start = checked.start;
-            let mut seen = [0u32; SEEN_SIZE];
-            return apply_parts(
-                &message[WITHDRAWN_AT..end],
-                &message[start..],
-                port,
-                rows,
-                n,
-                &mut seen,
-            );
-        }
-        return Answer::keeping(NOT_IN_ORDER, 0, n);
+    if !table_lookup::is_good(rows, n) {
+        return Err(Fault::NotInOrder.at(0));
     }
-    Answer::keeping(WRONG_PORT, 0, n)
+    let mut seen = [0u32; SEEN_SIZE];
+    apply_parts(
+        &message[WITHDRAWN_AT..parts.end],
+        &message[parts.start..],
+        port,
+        rows,
+        n,
+        &mut seen,
+    )
 }

@@ -1,5 +1,5 @@
 -- Laws of the check's code.
 pub mod Returns
-pub mod Parts
+pub mod Walk
 pub mod Whole
 pub mod Unique

@@ -14,7 +14,7 @@ use Rattle.message_rules.specs.Check.{head_check, part_check, message_check, Fit
 use Rattle.message_rules.proofs.Heads.{head_fits}
 use Rattle.message_rules.proofs.Refused.{then_refused, then_next}
 use Rattle.message_check.specs.Checked.{refused_by, checked_of}
-use Rattle.message_check.specs.declared.Checked.{Checked}
+use Rattle.message_check.specs.Checked.{Checked}
 
 -- what it answers, whatever it says of the parts
 pub checked_answer : (w : ℕ) (message : List ℕ) → (checked_of w message).answer ≡ message_check w message

@@ -4,20 +4,20 @@
 
 ghost use Rattle.std.specs.Prelude.{◌≡◌, ◌+◌, ◌≤◌, length};
 ghost use Rattle.message_rules.specs.Message.{least_size, most_size, unmarked};
-ghost use Rattle.message_rules.specs.Check.{wrong_length, inner_check, head_check, part_check};
-ghost use Rattle.message_check.specs.Checked.{refused_by, checked_of, Field};
+ghost use Rattle.refusals.specs.Refusals.{number_of, checked};
+ghost use Rattle.message_rules.specs.Check.{wrong_length, inner_check, head_check, fault_of, part_check};
+ghost use Rattle.message_check.specs.Checked.{checked_as, checked_of, Field};
 
 use message_rules::{
     LEAST_SIZE, LENGTH_AT, MARKER_SIZE, MOST_SIZE, TYPE_AT, UPDATE, WITHDRAWN_AT, WITHDRAWN_SIZE_AT,
 };
-use octets::{Taken, number_at, prefix_size, take_prefix};
-use refusals::{Answer, BAD_MESSAGE, LONG_PREFIX};
+use octets::{NoPrefix, number_at, prefix_size, take_prefix};
+use refusals::{Fault, Refusal};
 
-// What the check answers, and where the parts of an accepted message lie: the withdrawn one from byte 21 to an end, the announced one
-// from an offset to the end of the message.
-#[derive(Clone, Copy)]
-pub struct Checked {
-    pub answer: Answer,
+// Where the parts of an accepted message lie: the withdrawn one from byte 21 to an end, the announced one from an offset to the end
+// of the message.
+#[derive(Clone, Copy, Debug, PartialEq, Eq)]
+pub struct Parts {
     pub end: usize,
     pub start: usize,
 }
@@ -27,12 +27,10 @@ fn is_unmarked(message: &[u8]) -> bool
     requires { least_size ≤ length message.now }
     ensures { result ≡ unmarked message.now }
 {
-    let mut i: usize = 0;
-    while i < MARKER_SIZE {
+    for i in 0..MARKER_SIZE {
         if message[i] != 255 {
             return true;
         }
-        i += 1;
     }
     false
 }
@@ -53,95 +51,78 @@ fn is_wrong_length(message: &[u8]) -> bool
 }
 
 // The inner lengths: neither may lie past the end, and two bytes follow the withdrawn part.
-fn inner_check(message: &[u8]) -> Answer
-    ensures { result ≡ inner_check message.now }
+fn inner_check(message: &[u8]) -> Result<(), Refusal>
+    ensures { checked result ≡ inner_check message.now }
 {
     let end = WITHDRAWN_AT + field_at(message, WITHDRAWN_SIZE_AT);
     if message.len() < end + 2 {
-        return Answer::refused(BAD_MESSAGE, WITHDRAWN_SIZE_AT as u32);
+        return Err(Fault::BadMessage.at(WITHDRAWN_SIZE_AT as u32));
     }
     let at = end + 2 + field_at(message, end);
     if message.len() < at {
-        return Answer::refused(BAD_MESSAGE, end as u32);
+        return Err(Fault::BadMessage.at(end as u32));
     }
-    Answer::accepted(0)
+    Ok(())
 }
 
 // The head: all that stands before and between the parts.
-fn head_check(message: &[u8]) -> Answer
-    ensures { result ≡ head_check message.now }
+fn head_check(message: &[u8]) -> Result<(), Refusal>
+    ensures { checked result ≡ head_check message.now }
 {
     if message.len() < LEAST_SIZE {
-        return Answer::refused(BAD_MESSAGE, 0);
+        return Err(Fault::BadMessage.at(0));
     }
     if is_unmarked(message) {
-        return Answer::refused(BAD_MESSAGE, 0);
+        return Err(Fault::BadMessage.at(0));
     }
     if is_wrong_length(message) {
-        return Answer::refused(BAD_MESSAGE, LENGTH_AT as u32);
+        return Err(Fault::BadMessage.at(LENGTH_AT as u32));
     }
     if message[TYPE_AT] == UPDATE {
         return inner_check(message);
     }
-    Answer::refused(BAD_MESSAGE, TYPE_AT as u32)
+    Err(Fault::BadMessage.at(TYPE_AT as u32))
+}
+
+// What a message is refused with where no prefix stands.
+fn fault_of(none: NoPrefix) -> Fault
+    ensures { number_of result ≡ fault_of (Err none) }
+{
+    match none {
+        NoPrefix::Long => Fault::LongPrefix,
+        NoPrefix::Cut => Fault::BadMessage,
+    }
 }
 
 // The first prefix of a part that is at fault, where the part begins at byte `from` of the message.
-fn part_check(part: &[u8], from: usize) -> Answer
+fn part_check(part: &[u8], from: usize) -> Result<(), Refusal>
     requires { from + length part.now ≤ most_size }
-    ensures { result ≡ part_check 32 part.now from }
+    ensures { checked result ≡ part_check 32 part.now from }
 {
     let mut at: usize = 0;
     while at < part.len() {
         match take_prefix(part, at) {
-            Taken::Whole(p) => {
+            Ok(p) => {
                 at += prefix_size(p.len);
             }
-            Taken::Long => {
-                return Answer::refused(LONG_PREFIX, (from + at) as u32);
-            }
-            Taken::Cut => {
-                return Answer::refused(BAD_MESSAGE, (from + at) as u32);
+            Err(none) => {
+                return Err(fault_of(none).at((from + at) as u32));
             }
         }
     }
-    Answer::accepted(0)
-}
-
-// A refused message has no parts.
-fn refused_by(answer: Answer) -> Checked
-    ensures { result ≡ refused_by answer }
-{
-    Checked {
-        answer,
-        end: 0,
-        start: 0,
-    }
+    Ok(())
 }
 
 // Checks a message. Refuses 14 at 0 under 23 bytes and for the marker, at 16 for the length, at 18 for the type, at 19 for the length of
 // the withdrawn part, and where the length of the attributes stands for that one; then prefix by prefix, at its offset, 4 for a length
 // above 32 and 14 where it runs past its part.
-pub fn check_message(message: &[u8]) -> Checked
-    ensures { result ≡ checked_of 32 message.now }
+pub fn check_message(message: &[u8]) -> Result<Parts, Refusal>
+    ensures { checked_as result ≡ checked_of 32 message.now }
 {
-    let head = head_check(message);
-    if head.number != 0 {
-        return refused_by(head);
-    }
+    head_check(message)?;
     let end = WITHDRAWN_AT + field_at(message, WITHDRAWN_SIZE_AT);
-    let withdrawn = part_check(&message[WITHDRAWN_AT..end], WITHDRAWN_AT);
-    if withdrawn.number != 0 {
-        return refused_by(withdrawn);
-    }
+    part_check(&message[WITHDRAWN_AT..end], WITHDRAWN_AT)?;
     let at = end + 2 + field_at(message, end);
-    let announced = part_check(&message[at..], at);
-    if announced.number != 0 {
-        return refused_by(announced);
-    }
-    Checked {
-        answer: announced,
-        end,
-        start: at,
-    }
+    part_check(&message[at..], at)?;
+    Ok(Parts { end, start: at })
 }

@@ -8,3 +8,4 @@ pub mod Made
 pub mod Written
 pub mod WrittenBack
 pub mod WriteCalls
+pub mod Unique

@@ -2,7 +2,7 @@
 use mathlib.Core.Path.{◌≡◌, refl, sym, ap, ◌∙◌}
 use mathlib.Core.Logic.{◌⊎◌, inl, inr}
 use mathlib.Core.List.{List, ◌∷◌}
-use Prim.Native.Nat.{ℕ, zero, suc, ◌+◌, ◌-◌}
+use Prim.Native.Nat.{ℕ, zero, suc, ◌+◌}
 use native.Mathlib.Omega.{arith}
 use native.Mathlib.Numerals.{add-one}
 use native.Mathlib.Nat.{sub-zero}
@@ -12,14 +12,16 @@ use Rattle.prefix.specs.declared.Prefix.{Prefix}
 use Rattle.refusals.specs.Refusals.{long_prefix, bad_message}
 use Rattle.octets.specs.Octets.{prefix_size, len_at, prefix_at}
 use Rattle.octets.specs.Taken.{taken_at}
-use Rattle.octets.specs.declared.Taken.{Taken}
-use Rattle.octets.specs.declared.Taken.TheVariants.{Whole, Long, Cut}
+use Rattle.octets.specs.Taken.{Taken}
+use Rattle.std.proofs.Common.{Ok, Err}
+use Rattle.octets.specs.declared.NoPrefix.TheVariants.{Long, Cut}
 use Rattle.octets.proofs.TakeReturns.{TakenWhole, taken_long, taken_cut, taken_whole, whole_taken}
 use Rattle.message_rules.specs.Message.{prefixes_from}
 use Rattle.message_rules.specs.Check.{fault_of}
 use Rattle.message_rules.specs.Faults.{offset_of, WholePart}
 use Rattle.message_rules.specs.Theorems.{PrefixFaults, PrefixesAre}
-use Rattle.message_rules.proofs.Walk.{prefixes_after, prefixes_whole, prefixes_end}
+use Rattle.message_rules.proofs.Walk.{prefixes_whole, prefixes_end}
+use Rattle.message_rules.specs.Message.{prefixes_after}
 
 pub offset_none : (part : List ℕ) → offset_of part 0 ≡ 0
 unfolding offset_of
@@ -41,9 +43,9 @@ prefix_faults w part at = (
 
 -- the faults are 4 and 14
 pub fault_number : (t : Taken) → (fault_of t ≡ 0) ⊎ ((fault_of t ≡ long_prefix) ⊎ (fault_of t ≡ bad_message))
-fault_number (Whole p) = inl refl
-fault_number Long = inr (inl refl)
-fault_number Cut = inr (inr refl)
+fault_number (Ok p) = inl refl
+fault_number (Err Long) = inr (inl refl)
+fault_number (Err Cut) = inr (inr refl)
 
 module _ (w : ℕ) (part : List ℕ) where
   -- without a fault it stands whole
@@ -51,12 +53,12 @@ module _ (w : ℕ) (part : List ℕ) where
   sound_whole at = go (taken_at w part at) refl
     where
       go : (t : Taken) → taken_at w part at ≡ t → fault_of t ≡ 0 → TakenWhole w part at (prefix_at w part at)
-      go (Whole p) e z =
+      go (Ok p) e z =
           let h = whole_taken w part at p e in record { is = refl; short = h.short; uncut = h.uncut }
-      go Long e z = absurd (omega (arith, z))
-      go Cut e z = absurd (omega (arith, z))
+      go (Err Long) e z = absurd (omega (arith, z))
+      go (Err Cut) e z = absurd (omega (arith, z))
 
-  pub sound_taken : (at : ℕ) → fault_of (taken_at w part at) ≡ 0 → taken_at w part at ≡ Whole (prefix_at w part at)
+  pub sound_taken : (at : ℕ) → fault_of (taken_at w part at) ≡ 0 → taken_at w part at ≡ Ok (prefix_at w part at)
   sound_taken at z =
       let h = sound_whole at z in
       sym (taken_whole w part at (len_at part at) refl h.short (prefix_size (len_at part at)) refl h.uncut (prefix_at w part at) refl)

@@ -12,8 +12,8 @@ use Rattle.routes.specs.Routes.{ValidList}
 use Rattle.routes.specs.declared.Route.{Route}
 use Rattle.octets.specs.Octets.{prefix_size, len_at, prefix_at, prefix_octets}
 use Rattle.octets.specs.Taken.{taken_at}
-use Rattle.octets.specs.declared.Taken.{Taken}
-use Rattle.octets.specs.declared.Taken.TheVariants.{Whole}
+use Rattle.octets.specs.Taken.{Taken}
+use Rattle.std.proofs.Common.{Ok}
 use Rattle.octets.proofs.Prefixes.{length_prefix_octets, len_back, prefix_back, taken_back}
 use Rattle.message_rules.specs.Message.{prefixes_from, prefixes_in, withdrawn_in, announced_in}
 use Rattle.message_rules.specs.Check.{fault_of, message_check}
@@ -47,7 +47,7 @@ module _ (w : ℕ) (R : ℕ → Route) (n : ℕ) where
   stands i h = rw (offset_written i (omega arith)) (prefix_in w R n i h)
 
   module _ (whole : w % 8 ≡ 0) (ok : ValidList w R n) where
-    taken_written : (i : ℕ) → i < n → taken_at w part (offset_of part i) ≡ Whole (prefix (R i).value (R i).len)
+    taken_written : (i : ℕ) → i < n → taken_at w part (offset_of part i) ≡ Ok (prefix (R i).value (R i).len)
     taken_written i h =
         taken_back w (R i).value (R i).len part (offset_of part i) (after i) (stands i h) whole (ok.each i h).prefix
 

@@ -4,8 +4,9 @@ use Rattle.refusals.specs.Refusals.{long_prefix, bad_message, refused, accepted,
 use Rattle.refusals.specs.declared.Answer.{Answer}
 use Rattle.octets.specs.Octets.{prefix_size, len_at}
 use Rattle.octets.specs.Taken.{taken_at}
-use Rattle.octets.specs.declared.Taken.{Taken}
-use Rattle.octets.specs.declared.Taken.TheVariants.{Whole, Long, Cut}
+use Rattle.octets.specs.Taken.{Taken}
+use Rattle.std.specs.Prelude.{Ok, Err}
+use Rattle.octets.specs.declared.NoPrefix.TheVariants.{Long, Cut}
 use Rattle.message_rules.specs.Message.{length_at, type_at, withdrawn_size_at, withdrawn_at, least_size, most_size, update_type, unmarked, field_at, attributes_size_at, announced_at, withdrawn_part, announced_part}
 
 -- "a length below 23, above 4,096 or not the bytes lent"
@@ -37,9 +38,9 @@ pub record Fits (message : List ℕ) : Type 0 where
 
 -- "per prefix .. 4, or 14 where it runs past its part"
 abbrev pub fault_of : Taken → ℕ
-fault_of (Whole p) = 0
-fault_of Long = long_prefix
-fault_of Cut = bad_message
+fault_of (Ok p) = 0
+fault_of (Err Long) = long_prefix
+fault_of (Err Cut) = bad_message
 
 -- the first prefix of a part that is at fault from an offset on, where the part itself begins at `from`; k are left at most
 unfoldable pub part_from : ℕ → List ℕ → ℕ → ℕ → ℕ → Answer

@@ -4,3 +4,4 @@ pub mod Check
 pub mod Faults
 pub mod Written
 pub mod Theorems
+pub mod Left

@@ -1,13 +1,14 @@
 -- Defines the fields and the two parts of an UPDATE message, and the prefixes of a part: RULES, "UPDATE messages". Assumes nothing.
-use Rattle.std.specs.Prelude.{Bool, not, List, [], ◌∷◌, ℕ, zero, suc, ◌+◌, eqb, length, get_or, take, drop}
+use Rattle.std.specs.Prelude.{Bool, not, List, [], ◌∷◌, ℕ, zero, suc, ◌+◌, ◌-◌, eqb, length, get_or, take, drop}
 use Rattle.bits.specs.Prefix.{Valid}
 use Rattle.lists.specs.Below.{some_below}
 use Rattle.prefix.specs.declared.Prefix.{Prefix}
 use Rattle.octets.specs.Bytes.{number}
 use Rattle.octets.specs.Octets.{prefix_size, len_at}
 use Rattle.octets.specs.Taken.{taken_at}
-use Rattle.octets.specs.declared.Taken.{Taken}
-use Rattle.octets.specs.declared.Taken.TheVariants.{Whole, Long, Cut}
+use Rattle.octets.specs.Taken.{Taken}
+use Rattle.std.specs.Prelude.{Ok, Err}
+use Rattle.octets.specs.declared.NoPrefix.TheVariants.{Long, Cut}
 
 -- "marker, length, type, withdrawn routes, path attributes passed over by their total length, then the announced prefixes"
 abbrev pub marker_size : ℕ
@@ -67,9 +68,9 @@ announced_part message = drop (announced_at message) message
 
 -- a prefix that stands whole, and those after it
 abbrev pub ahead : Taken → List Prefix → List Prefix
-ahead (Whole p) ps = p ∷ ps
-ahead Long ps = []
-ahead Cut ps = []
+ahead (Ok p) ps = p ∷ ps
+ahead (Err Long) ps = []
+ahead (Err Cut) ps = []
 
 -- the prefixes of a part from an offset on, to the first that does not stand whole; k at most
 unfoldable pub prefixes_from : ℕ → List ℕ → ℕ → ℕ → List Prefix
@@ -79,6 +80,10 @@ prefixes_from w part (suc k) at = ahead (taken_at w part at) (prefixes_from w pa
 -- each takes a byte or more
 abbrev pub prefixes_in : ℕ → List ℕ → List Prefix
 prefixes_in w part = prefixes_from w part (length part) 0
+
+-- those that are left from an offset on
+abbrev pub prefixes_after : ℕ → List ℕ → ℕ → List Prefix
+prefixes_after w part at = prefixes_from w part (length part - at) at
 
 abbrev pub withdrawn_in : ℕ → List ℕ → List Prefix
 withdrawn_in w message = prefixes_in w (withdrawn_part message)

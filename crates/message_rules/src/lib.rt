@@ -1,6 +1,8 @@
 // UPDATE messages of RFC 4271 with IPv4 prefixes: definitions and laws over the width, and the sizes that the code shares.
 #![tactic(auto)]
 
+pub mod prefixes;
+
 // A message with nothing in it: marker, length, type and the two lengths of what it leaves out.
 pub const LEAST_SIZE: usize = 23;
 

@@ -2,6 +2,7 @@
 #![tactic(auto)]
 
 ghost use Rattle.std.specs.Prelude.{◌≡◌, ◌≤◌, length, replicate};
+ghost use Rattle.refusals.specs.Refusals.{answered};
 ghost use Rattle.promise.specs.Over.{over, outcome};
 ghost use Rattle.routes.specs.Routes.{route_at, route_count, ValidList};
 ghost use Rattle.octets.specs.Octets.{stored};
@@ -13,7 +14,7 @@ use message_rules::{
     LEAST_SIZE, LENGTH_AT, MARKER_SIZE, MOST_SIZE, TYPE_AT, UPDATE, WITHDRAWN_AT, WITHDRAWN_SIZE_AT,
 };
 use octets::{prefix_size, put_number, put_prefix};
-use refusals::{Answer, NO_ROOM};
+use refusals::{Fault, Refusal};
 use routes::{ROUTE_SIZE, check_list, route_at};
 
 // How many bytes the prefixes of a valid list take.
@@ -21,13 +22,10 @@ fn prefixes_size(list: &[u32]) -> usize
     requires { ValidList 32 (route_at list.now) (route_count list.now) }
     ensures { PrefixesSize 32 list.now result }
 {
-    let n = list.len() / ROUTE_SIZE;
     let mut size: usize = 0;
-    let mut i: usize = 0;
-    while i < n {
+    for i in 0..list.len() / ROUTE_SIZE {
         let r = route_at(list, i);
         size += prefix_size(r.len);
-        i += 1;
     }
     size
 }
@@ -37,10 +35,8 @@ fn put_marker(message: &mut [u8])
     requires { marker_size ≤ length message.old }
     ensures { message.new ≡ over (replicate marker_size ones) message.old }
 {
-    let mut i: usize = 0;
-    while i < MARKER_SIZE {
+    for i in 0..MARKER_SIZE {
         message[i] = 255;
-        i += 1;
     }
 }
 
@@ -60,36 +56,30 @@ fn put_prefixes(list: &[u32], message: &mut [u8])
     requires { FitsMessage 32 list.now message.old }
     ensures { message.new ≡ stored message.old withdrawn_at (prefixes_of 32 (route_at list.now) (route_count list.now)) }
 {
-    let n = list.len() / ROUTE_SIZE;
     let mut at = WITHDRAWN_AT;
-    let mut i: usize = 0;
-    while i < n {
+    for i in 0..list.len() / ROUTE_SIZE {
         let r = route_at(list, i);
         put_prefix(message, at, r.value, r.len);
         at += prefix_size(r.len);
-        i += 1;
     }
 }
 
 // Writes the message that withdraws a list; answers how many bytes. Refuses as the list check does: 3 and 8 at place 0, then the first
 // route that is at fault, by its number, with its first fault of 4, 5, 6, 7; last 9, the message has over 4,096 bytes or more than are
 // lent.
-pub fn write_message(list: &[u32], message: &mut [u8]) -> Answer
-    ensures { outcome result message.new ≡ write_message 32 list.now message.old }
+pub fn write_message(list: &[u32], message: &mut [u8]) -> Result<u32, Refusal>
+    ensures { outcome (answered result) message.new ≡ write_message 32 list.now message.old }
 {
-    let checked = check_list(list);
-    if checked.number != 0 {
-        return checked;
-    }
+    check_list(list)?;
     let size = prefixes_size(list);
     if MOST_SIZE < LEAST_SIZE + size {
-        return Answer::refused(NO_ROOM, 0);
+        return Err(Fault::NoRoom.at(0));
     }
     if message.len() < LEAST_SIZE + size {
-        return Answer::refused(NO_ROOM, 0);
+        return Err(Fault::NoRoom.at(0));
     }
     put_head(message, size);
     put_prefixes(list, message);
     put_number(message, WITHDRAWN_AT + size, 2, 0);
-    Answer::accepted((LEAST_SIZE + size) as u32)
+    Ok((LEAST_SIZE + size) as u32)
 }

@@ -15,7 +15,7 @@ use Rattle.prefix.specs.Prefixes.{prefix}
 use Rattle.octets.specs.Bytes.{number, digits, Bytes}
 use Rattle.octets.specs.Octets.{prefix_bytes, prefix_size, bits_after, len_at, value_from, prefix_at, prefix_octets}
 use Rattle.octets.specs.Taken.{taken_at}
-use Rattle.octets.specs.declared.Taken.TheVariants.{Whole}
+use Rattle.std.proofs.Common.{Ok}
 use Rattle.octets.proofs.Bytes.{length_digits, number_digits, number_lt, digits_taken, bytes_drop, bytes_take}
 
 -- as many as the length says
@@ -63,11 +63,11 @@ module _ (w value len : ℕ) (bytes : List ℕ) (at : ℕ) (rest : List ℕ) (is
         rw (len_back, after_len, take_at high rest (prefix_bytes len) (length_digits (prefix_bytes len) (value / 2 ^ bits_after w len)), value_back w value len whole ok)
         (ap (λ (v : ℕ). prefix v len) (first_valid w value len ok))
 
-    pub taken_back : taken_at w bytes at ≡ Whole (prefix value len)
+    pub taken_back : taken_at w bytes at ≡ Ok (prefix value len)
     unfolding taken_at
     taken_back =
         simp (le-leb (len_at bytes at) w (rw len_back ok.short), le-leb (at + prefix_size (len_at bytes at)) (length bytes) (rw len_back uncut_back))
-        (ap Whole prefix_back)
+        (ap Ok prefix_back)
 
 -- a prefix that stands at an offset and is not cut
 module _ (w : ℕ) (bytes : List ℕ) (at : ℕ) (all : Bytes bytes) (uncut : at + prefix_size (len_at bytes at) ≤ length bytes) where

@@ -28,14 +28,14 @@ pub fn prefix_size(len: u32) -> usize
 fn wide(b: u8) -> u64
     ensures { ByteIs b result }
 {
-    b as u64
+    u64::from(b)
 }
 
 // A number, or `most` where it is larger.
 fn up_to(most: usize, x: usize) -> usize
     ensures { (result ≡ min x most) × (result ≤ most) }
 {
-    if x <= most { x } else { most }
+    x.min(most)
 }
 
 // Whether k bytes from an offset on are all among so many.
@@ -52,11 +52,7 @@ fn are_there(count: usize, from: usize, k: usize) -> bool
 fn left_from(bytes: &[u8], from: usize) -> usize
     ensures { result ≡ length bytes.now - from }
 {
-    if from < bytes.len() {
-        bytes.len() - from
-    } else {
-        0
-    }
+    bytes.len().saturating_sub(from)
 }
 
 // The number that k bytes write, big-endian, where they are all there.
@@ -65,10 +61,8 @@ fn number_of(bytes: &[u8], from: usize, k: usize) -> u64
     ensures { NumberAt bytes.now from k result }
 {
     let mut sum: u64 = 0;
-    let mut j: usize = 0;
-    while j < k {
+    for j in 0..k {
         sum = sum * 256 + wide(bytes[from + j]);
-        j += 1;
     }
     sum
 }
@@ -130,29 +124,28 @@ pub fn prefix_from(bytes: &[u8], from: usize, len: u32) -> Prefix
     Prefix { value, len: bits }
 }
 
-// What stands at an offset of some bytes: a whole prefix, or a length byte above 32, or a prefix that runs past the end.
-#[derive(Clone, Copy)]
-pub enum Taken {
-    Whole(Prefix),
+// Why no prefix stands at an offset of some bytes: its length byte is above 32, or it runs past the end.
+#[derive(Clone, Copy, Debug, PartialEq, Eq)]
+pub enum NoPrefix {
     Long,
     Cut,
 }
 
 // The prefix at an offset of any bytes, or why there is none. At the end of the bytes and past it, a prefix is cut.
-pub fn take_prefix(bytes: &[u8], at: usize) -> Taken
+pub fn take_prefix(bytes: &[u8], at: usize) -> Result<Prefix, NoPrefix>
     ensures { result ≡ taken_at 32 bytes.now at }
 {
     if bytes.len() <= at {
-        return Taken::Cut;
+        return Err(NoPrefix::Cut);
     }
     let len = length_at(bytes, at);
     if 32 < len {
-        return Taken::Long;
+        return Err(NoPrefix::Long);
     }
     if bytes.len() < at + prefix_size(len) {
-        return Taken::Cut;
+        return Err(NoPrefix::Cut);
     }
-    Taken::Whole(prefix_from(bytes, at + 1, len))
+    Ok(prefix_from(bytes, at + 1, len))
 }
 
 // Stores the last k bytes of a number, big-endian, from an offset on, where there is room for them.
@@ -160,11 +153,9 @@ fn store_number(bytes: &mut [u8], at: usize, k: usize, x: u64)
     requires { (at + k ≤ length bytes.old) × (k ≤ 4) }
     ensures { bytes.new ≡ stored bytes.old at (digits k x) }
 {
-    let mut j: usize = 0;
-    while j < k {
+    for j in 0..k {
         let gap = 8 * (k - 1 - j);
         bytes[at + j] = ((x >> gap) % 256) as u8;
-        j += 1;
     }
 }
 

@@ -11,7 +11,10 @@ use lib.Seq.{take_at}
 use borrow.Author.Tests.{eq-eqb, eqb-true, eqb-false, le-leb, lt-leb, leb-true, leb-false}
 use Rattle.promise.specs.Over.{Outcome, outcome, over}
 use Rattle.lists.proofs.Tests.{way}
-use Rattle.refusals.specs.Refusals.{no_room, refused, accepted}
+use Rattle.std.proofs.Common.{Result, Ok, Err, IsOk, rules}
+use Rattle.refusals.specs.Refusals.{no_room, refused, accepted, answered}
+use Rattle.refusals.specs.declared.Refusal.{Refusal}
+use Rattle.refusals.proofs.Numbers.{number_ne0}
 use Rattle.routes.specs.Routes.{route_size, route_at, route_count, list_of_routes}
 use Rattle.lists.specs.Numbered.{list_of}
 use Rattle.refusals.specs.declared.Answer.{Answer}
@@ -51,6 +54,13 @@ module _ (w : ℕ) (list lent : List ℕ) {left out : List ℕ} {a : Answer} (sh
 
   left_is : left ≡ over (run_words rs) lent
   left_is = ap (λ (o : Outcome Answer). o.lent) done
+
+  number_is : a.number ≡ 0
+  number_is = ap (λ (o : Outcome Answer). o.answer.number) done
+
+  pub listing_ok : (r : Result ℕ Refusal) → answered r ≡ a → IsOk r
+  listing_ok (Ok count) e = search rules
+  listing_ok (Err r) e = absurd (number_ne0 r.fault (ap (λ (x : Answer). x.number) e ∙ number_is))
 
   pub listing_lined : length left ≡ length lent → Lined out header_room left a.count
   listing_lined same = record {

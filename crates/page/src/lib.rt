@@ -3,7 +3,7 @@
 
 ghost use Rattle.std.specs.Prelude.{◌≡◌, ◌++◌, ◌+◌, ◌*◌, ◌≤◌, length};
 ghost use Rattle.promise.specs.Over.{outcome};
-ghost use Rattle.refusals.specs.Refusals.{refused};
+ghost use Rattle.refusals.specs.Refusals.{number_of, refused};
 ghost use Rattle.routes.specs.Routes.{route_at, route_count};
 ghost use Rattle.lists.specs.Numbered.{list_of};
 ghost use Rattle.runs_rules.specs.Runs.{run, run_at};
@@ -13,7 +13,7 @@ ghost use Rattle.page.specs.Needs.{Wrote, Lined, Shown};
 
 use file_read::read_file;
 use put::{put_byte, put_bytes, put_dotted, put_number};
-use refusals::NO_ROOM;
+use refusals::{Fault, Refusal};
 use routes::ROUTE_SIZE;
 use runs_write::{RUN_SIZE, list_runs};
 
@@ -62,11 +62,9 @@ fn put_lines(out: &mut [u8], at: usize, runs: &[u32], n: usize) -> usize
     ensures { Wrote out.old at (lines_of (list_of (run_at runs.now) n 0)) result out.new }
 {
     let mut next = at;
-    let mut i: usize = 0;
-    while i < n {
+    for i in 0..n {
         let row = i * RUN_SIZE;
         next = put_line(out, next, runs[row], runs[row + 1], runs[row + 2]);
-        i += 1;
     }
     next
 }
@@ -83,14 +81,15 @@ fn put_listing(out: &mut [u8], runs: &[u32], n: usize) -> usize
 }
 
 // A refusal's number and place.
-fn put_refusal(out: &mut [u8], number: u32, place: u32) -> usize
+fn put_refusal(out: &mut [u8], refusal: Refusal) -> usize
     requires { refusal_room ≤ length out.old }
-    ensures { Wrote out.old 0 (refused_text (refused number place)) result out.new }
+    ensures { Wrote out.old 0 (refused_text (refused (number_of refusal.fault) refusal.place)) result out.new }
 {
+    let number = u32::from(refusal.fault);
     let a = put_bytes(out, 0, b"refused ");
     let b = put_number(out, a, number);
     let c = put_byte(out, b, b' ');
-    let d = put_number(out, c, place);
+    let d = put_number(out, c, refusal.place);
     put_byte(out, d, b'\n')
 }
 
@@ -100,8 +99,8 @@ fn put_runs(list: &[u32], out: &mut [u8]) -> usize
     ensures { Wrote out.old 0 (runs_text (listed 32 (route_at list.now) (route_count list.now))) result out.new }
 {
     let mut runs = [0u32; RUNS_SIZE];
-    let written = list_runs(list, &mut runs);
-    put_listing(out, &runs, written.count as usize)
+    let count = list_runs(list, &mut runs).unwrap();
+    put_listing(out, &runs, count as usize)
 }
 
 // The page for a file, and how many bytes it has; none where the lent bytes do not hold any page.
@@ -112,13 +111,11 @@ pub fn page(file: &[u8], out: &mut [u8]) -> usize
         return 0;
     }
     if MOST_BYTES < file.len() {
-        return put_refusal(out, NO_ROOM, 0);
+        return put_refusal(out, Fault::NoRoom.at(0));
     }
     let mut list = [0u32; LIST_SIZE];
-    let got = read_file(file, &mut list);
-    if got.number != 0 {
-        return put_refusal(out, got.number, got.place);
+    match read_file(file, &mut list) {
+        Ok(count) => put_runs(&list[..count as usize * ROUTE_SIZE], out),
+        Err(refusal) => put_refusal(out, refusal),
     }
-    let size = got.count as usize * ROUTE_SIZE;
-    put_runs(&list[..size], out)
 }

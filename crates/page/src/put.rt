@@ -16,10 +16,8 @@ pub(crate) fn put_bytes(out: &mut [u8], at: usize, bytes: &[u8]) -> usize
     ensures { Wrote out.old at bytes.now result out.new }
 {
     let mut next = at;
-    let mut i: usize = 0;
-    while i < bytes.len() {
-        next = put_byte(out, next, bytes[i]);
-        i += 1;
+    for byte in bytes {
+        next = put_byte(out, next, *byte);
     }
     next
 }

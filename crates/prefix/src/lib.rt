@@ -7,7 +7,8 @@ ghost use Rattle.bits.specs.Bits.{bit_before};
 ghost use Rattle.bits.specs.Prefix.{span, clear, matches, first, last, precedes, same_prefix, ahead_of};
 ghost use Rattle.prefix.specs.Prefixes.{Spanned, prefix, left_half, right_half};
 
-#[derive(Clone, Copy)]
+// Ordered by value and then by length, as routes stand in a list.
+#[derive(Clone, Copy, Debug, PartialEq, Eq, PartialOrd, Ord)]
 pub struct Prefix {
     pub value: u32,
     pub len: u32,
@@ -17,7 +18,7 @@ pub struct Prefix {
 fn gap(len: u32) -> u32
     ensures { (result ≡ 32 - len) × (result ≤ 32) }
 {
-    if len < 32 { 32 - len } else { 0 }
+    32u32.saturating_sub(len)
 }
 
 // The bit of an address that has k bits after it; none past 32 bits.
@@ -118,14 +119,14 @@ impl Prefix {
     pub fn precedes(self, next: Prefix) -> bool
         ensures { result ≡ precedes self.value self.len next.value next.len }
     {
-        (self.value < next.value) | ((self.value == next.value) & (self.len < next.len))
+        self < next
     }
 
     // Whether another prefix is this one.
     pub fn is_same(self, other: Prefix) -> bool
         ensures { result ≡ same_prefix self.value self.len other.value other.len }
     {
-        (self.len == other.len) & (self.value == other.value)
+        self == other
     }
 
     // Whether this prefix goes before another in the trie: it is longer, or as long and of smaller value.

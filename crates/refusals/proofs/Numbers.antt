@@ -1,5 +1,7 @@
 -- The numbers of the faults: none is 0, no two are the same, and so an answer tells which call was refused and why. Assumes nothing.
-use Rattle.std.proofs.Common.{◌≡◌, ℕ, refl, sym, ap, ◌∙◌, Option, Some, None, Result, Ok, Err, cond, eqb}
+use mathlib.Core.Path.{ap₂}
+use Rattle.std.proofs.Common.{◌≡◌, List, ℕ, refl, sym, ap, ◌∙◌, Option, Some, None, Result, Ok, Err, cond, eqb}
+use Rattle.promise.specs.Over.{outcome}
 use Rattle.refusals.specs.declared.Fault.{Fault}
 use Rattle.refusals.specs.declared.Fault.TheVariants.{ShortFile, WrongVersion, WrongSize, LongPrefix, SpareBits, WrongPort, NotAbove, TooManyRoutes, NoRoom, NotHeld, NotInOrder, WrongStride, BadMessage}
 use Rattle.refusals.specs.declared.Refusal.{Refusal}
@@ -85,3 +87,8 @@ answered_one (Ok a) (Ok b) e = ap Ok (ap (λ (a : Answer). a.count) e)
 answered_one (Ok a) (Err b) e = absurd (number_ne0 b.fault (sym (ap (λ (a : Answer). a.number) e)))
 answered_one (Err a) (Ok b) e = absurd (number_ne0 a.fault (ap (λ (a : Answer). a.number) e))
 answered_one (Err a) (Err b) e = ap Err (refusal_one a b (ap (λ (a : Answer). a.number) e) (ap (λ (a : Answer). a.place) e))
+
+-- and so does one that leaves lent memory, beside what it leaves there
+pub told_one : {A : Type 0} (view : A → Answer) → ((x y : A) → view x ≡ view y → x ≡ y) → (x y : A) (a b : List ℕ)
+    → outcome (view x) a ≡ outcome (view y) b → outcome x a ≡ outcome y b
+told_one view one x y a b e = ap₂ outcome (one x y (ap (λ o. o.answer) e)) (ap (λ o. o.lent) e)

@@ -2,6 +2,10 @@
 use mathlib.Core.Path.{sym, ◌∙◌}
 use Rattle.refusals.specs.Reply.{reply}
 use Rattle.promise.specs.Determined.{Determined}
+use Rattle.refusals.proofs.Fault.at.Reads as at_reads
+use Rattle.refusals.proofs.Fault.at.Kinds as at_kinds
+use Rattle.refusals.proofs.Answer.updated.Reads as updated_reads
+use Rattle.refusals.proofs.Answer.updated.Kinds as updated_kinds
 use Rattle.refusals.proofs.Answer.refused.Reads as refused_reads
 use Rattle.refusals.proofs.Answer.refused.Kinds as refused_kinds
 use Rattle.refusals.proofs.Answer.keeping.Reads as keeping_reads
@@ -18,6 +22,12 @@ use Rattle.refusals.proofs.reply.counted.Kinds as counted_kinds
 use Rattle.refusals.proofs.reply.counted.Reads as counted_reads
 use Rattle.refusals.proofs.reply.looked.Kinds as looked_kinds
 use Rattle.refusals.proofs.reply.looked.Reads as looked_reads
+
+at_unique : Determined 0 at_kinds.ps at_kinds.r at_reads.Post (λ κs x s. x)
+at_unique κs a x y s t p q = p ∙ sym q
+
+updated_unique : Determined 0 updated_kinds.ps updated_kinds.r updated_reads.Post (λ κs x s. x)
+updated_unique κs a x y s t p q = p ∙ sym q
 
 refused_unique : Determined 0 refused_kinds.ps refused_kinds.r refused_reads.Post (λ κs x s. x)
 refused_unique κs a x y s t p q = p ∙ sym q

@@ -124,6 +124,14 @@ impl Answer {
     }
 }
 
+impl From<Refusal> for Answer {
+    ghost from_gives = { λ r answer. answer ≡ refused (number_of r.fault) r.place };
+
+    fn from(r: Refusal) -> Answer {
+        Answer::refused(u32::from(r.fault), r.place)
+    }
+}
+
 // A check, which has no other result.
 impl From<Result<(), Refusal>> for Answer {
     ghost from_gives = { λ x answer. answer ≡ checked x };
@@ -131,7 +139,7 @@ impl From<Result<(), Refusal>> for Answer {
     fn from(x: Result<(), Refusal>) -> Answer {
         match x {
             Ok(()) => Answer::accepted(0),
-            Err(r) => Answer::refused(u32::from(r.fault), r.place),
+            Err(r) => Answer::from(r),
         }
     }
 }
@@ -143,7 +151,7 @@ impl From<Result<u32, Refusal>> for Answer {
     fn from(x: Result<u32, Refusal>) -> Answer {
         match x {
             Ok(count) => Answer::accepted(count),
-            Err(r) => Answer::refused(u32::from(r.fault), r.place),
+            Err(r) => Answer::from(r),
         }
     }
 }

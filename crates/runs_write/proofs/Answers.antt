@@ -34,28 +34,25 @@ module _ {w : ℕ} {R : ℕ → Route} {n : ℕ} {lent : List ℕ} (ok : ValidLi
   sweepable_at_once = record { valid = ok; room = λ t. omega (arith, listed_few w R n) }
 
   pub write_runs_at_once : {count : ℕ} {left : List ℕ} → Swept (listed w R n) true count lent left
-      → {a : Answer} → a ≡ accepted count → outcome a left ≡ write_runs (listed w R n) lent
+      → outcome (accepted count) left ≡ write_runs (listed w R n) lent
   unfolding write_runs
-  write_runs_at_once s {a} is =
-      ap₂ (λ (x : Answer) (ws : List ℕ). outcome x ws) (is ∙ ap accepted s.counted) s.written
+  write_runs_at_once s =
+      ap₂ (λ (k : ℕ) (ws : List ℕ). outcome (accepted k) ws) s.counted s.written
       ∙ simp (le-leb (length (listed w R n)) (length lent / run_size) (omega (arith, listed_few w R n)))
 
 -- what it counted, in memory that it left as it was
 module _ {rs : List Run} {count : ℕ} {lent left : List ℕ} (s : Swept rs false count lent left) where
-  outcome_left : (a : Answer) → outcome a left ≡ outcome a lent
-  outcome_left a = ap (λ (ws : List ℕ). outcome a ws) s.written
-
-  pub write_runs_short : {a : Answer} → a ≡ refused no_room 0 → length left / run_size < count → outcome a left ≡ write_runs rs lent
+  pub write_runs_short : length left / run_size < count → outcome (refused no_room 0) left ≡ write_runs rs lent
   unfolding write_runs
-  write_runs_short {a} is l =
-      outcome_left a ∙ ap (λ (x : Answer). outcome x lent) is
+  write_runs_short l =
+      ap (outcome (refused no_room 0)) s.written
       ∙ simp (lt-leb (length rs) (length lent / run_size) (omega (arith, s.counted, ap length s.written)))
 
-  pub write_runs_done : {a : Answer} {count' : ℕ} {done : List ℕ} → a ≡ accepted count → count ≤ length left / run_size
-      → Swept rs true count' left done → outcome a done ≡ write_runs rs lent
+  pub write_runs_done : {count' : ℕ} {done : List ℕ} → count ≤ length left / run_size
+      → Swept rs true count' left done → outcome (accepted count) done ≡ write_runs rs lent
   unfolding write_runs
-  write_runs_done {a} {count'} {done} is l t =
-      ap₂ (λ (x : Answer) (ws : List ℕ). outcome x ws) (is ∙ ap accepted s.counted) (t.written ∙ ap (over (run_words rs)) s.written)
+  write_runs_done {count'} {done} l t =
+      ap₂ (λ (k : ℕ) (ws : List ℕ). outcome (accepted k) ws) s.counted (t.written ∙ ap (over (run_words rs)) s.written)
       ∙ simp (le-leb (length rs) (length lent / run_size) (omega (arith, s.counted, ap length s.written)))
 
 -- a list, after its check

@@ -8,7 +8,7 @@ use native.Mathlib.Omega.{arith}
 use native.Mathlib.Numerals.{add-one}
 use lib.Dec.{eqb, ltb}
 use lib.Pow.{pow_pos}
-use lib.ListN.{get_or, length, set, length-set}
+use lib.ListN.{length, set, length-set}
 use lib.Seq.{get_or-set_same, get_or-set_other}
 use borrow.Author.Tests.{eqb-true, eqb-false, lt-ltb, le-ltb, le-leb, lt-leb, ltb-true, ltb-false}
 use Rattle.bits.specs.Prefix.{first, last}
@@ -20,8 +20,9 @@ use Rattle.routes.specs.Scan.{scan_of, last_match, route_matches}
 use Rattle.routes.specs.declared.Route.{Route}
 use Rattle.routes.proofs.Rising.{before, match_longer}
 use Rattle.routes.proofs.Scan.{scan_is_last}
-use Rattle.runs_write.specs.Sweep.{start_of, look}
+use Rattle.runs_write.specs.Sweep.{start_of, open_route, open_at, look}
 use Rattle.runs_write.specs.Needs.{Held, Open}
+use Rattle.runs_write.specs.declared.sweep.OpenRoute.{OpenRoute}
 
 module _ (w : ℕ) (R : ℕ → Route) (n : ℕ) where
   abbrev ends_of : ℕ → ℕ
@@ -54,27 +55,25 @@ module _ (w : ℕ) (R : ℕ → Route) (n : ℕ) where
       (λ (t : ltb (i + 1) n ≡ false). omega (arith, start_lt i ok, start_out (i + 1) (ltb-false (i + 1) n t)))
       (way (ltb (i + 1) n))
 
-  pub open_none : (ends ports : List ℕ) → ValidList w R n → length ends ≡ w + 2 → length ports ≡ w + 2 → get_or ends 0 0 ≡ 2 ^ w - 1
-      → get_or ports 0 0 ≡ 0 → Open w R n ends ports 0 0 0
+  pub open_none : (stack : List OpenRoute) → ValidList w R n → length stack ≡ w + 2 → open_at stack 0 ≡ open_route (2 ^ w - 1) 0
+      → Open w R n stack 0 0 0
   unfolding last_match look
-  open_none ends ports ok e p full zero-port = record {
+  open_none stack ok size whole = record {
     valid = ok;
     taken = omega arith;
     deep = omega arith;
-    size_ends = e;
-    size_ports = p;
-    whole = full;
-    none = zero-port;
+    size = size;
+    whole = whole;
     held = λ j h. absurd (omega arith);
     sees = λ a h. refl;
   }
 
   -- the innermost has ended before a later address: there is one, and it is closed there
-  pub open_closed : (ends ports : List ℕ) (d i at to : ℕ) → Open w R n ends ports d i at → at ≤ to → get_or ends d 0 < to → to < 2 ^ w
-      → (0 < d) × Open w R n ends ports (d - 1) i to
+  pub open_closed : (stack : List OpenRoute) (d i at to : ℕ) → Open w R n stack d i at → at ≤ to → (open_at stack d).end < to → to < 2 ^ w
+      → (0 < d) × Open w R n stack (d - 1) i to
   unfolding look
-  open_closed ends ports zero i at to o l h k = absurd (omega (arith, o.whole))
-  open_closed ends ports (suc d) i at to o l h k =
+  open_closed stack zero i at to o l h k = absurd (omega (arith, ap (λ (x : OpenRoute). x.end) o.whole))
+  open_closed stack (suc d) i at to o l h k =
       let p : suc d - 1 ≡ d = omega arith in (
         omega arith,
         rw p
@@ -82,21 +81,19 @@ module _ (w : ℕ) (R : ℕ → Route) (n : ℕ) where
               valid = o.valid;
               taken = o.taken;
               deep = omega (arith, o.deep);
-              size_ends = o.size_ends;
-              size_ports = o.size_ports;
+              size = o.size;
               whole = o.whole;
-              none = o.none;
               held = λ j m. o.held j (omega arith);
-              sees = λ a m. o.sees a (omega arith) ∙ rw (lt-leb a (get_or ends (suc d) 0) (omega arith)) refl;
+              sees = λ a m. o.sees a (omega arith) ∙ rw (lt-leb a (open_at stack (suc d)).end (omega arith)) refl;
             }),
       )
 
   -- the stack below the place that is written
-  look_set : (ends ports : List ℕ) (d j x y a : ℕ) → j ≤ d → look (set ends (suc d) x) (set ports (suc d) y) j a ≡ look ends ports j a
+  look_set : (stack : List OpenRoute) (x : OpenRoute) (d j a : ℕ) → j ≤ d → look (set stack (suc d) x) j a ≡ look stack j a
   unfolding look
-  look_set ends ports d zero x y a h = refl
-  look_set ends ports d (suc j) x y a h =
-      rw (get_or-set_other ends (suc d) (suc j) x 0 (λ e. omega arith), get_or-set_other ports (suc d) (suc j) y 0 (λ e. omega arith), look_set ends ports d j x y a (omega arith))
+  look_set stack x d zero a h = refl
+  look_set stack x d (suc j) a h =
+      rw (get_or-set_other stack (suc d) (suc j) x (open_route 0 0) (λ e. omega arith), look_set stack x d j a (omega arith))
       refl
 
   module _ (ok : ValidList w R n) where
@@ -114,9 +111,9 @@ module _ (w : ℕ) (R : ℕ → Route) (n : ℕ) where
         (matches_refl w (R k).value (R k).len)
 
     -- the routes on the stack are each longer than those below them, so that there are no more than lengths
-    deep_le : (ends ports : List ℕ) (d i at : ℕ) → Open w R n ends ports d i at → i < n → (R i).value ≤ get_or ends d 0 → d ≤ (R i).len
-    deep_le ends ports zero i at o h e = omega arith
-    deep_le ends ports (suc d) i at o h e =
+    deep_le : (stack : List OpenRoute) (d i at : ℕ) → Open w R n stack d i at → i < n → (R i).value ≤ (open_at stack d).end → d ≤ (R i).len
+    deep_le stack zero i at o h e = omega arith
+    deep_le stack (suc d) i at o h e =
         let q = o.held d (omega arith) in
         omega (arith, nested_longer q.which i q.earlier h (omega (arith, q.end_is)), q.long)
 
@@ -137,27 +134,27 @@ module _ (w : ℕ) (R : ℕ → Route) (n : ℕ) where
         rw (z, no) (later_none i a h k (omega arith))
 
   -- a route that has begun goes on the stack
-  module _ (ends ports : List ℕ) (d i at : ℕ) (o : Open w R n ends ports d i at) (here : i < n) (begun : (R i).value ≤ at)
-      (within : (R i).value ≤ get_or ends d 0) where
-    abbrev ends' : List ℕ
-    ends' = set ends (suc d) (ends_of i)
+  module _ (stack : List OpenRoute) (d i at : ℕ) (o : Open w R n stack d i at) (here : i < n) (begun : (R i).value ≤ at)
+      (within : (R i).value ≤ (open_at stack d).end) where
+    abbrev here_open : OpenRoute
+    here_open = open_route (ends_of i) (R i).port
 
-    abbrev ports' : List ℕ
-    ports' = set ports (suc d) (R i).port
+    abbrev stack' : List OpenRoute
+    stack' = set stack (suc d) here_open
 
     long : d ≤ (R i).len
-    long = deep_le o.valid ends ports d i at o here within
+    long = deep_le o.valid stack d i at o here within
 
     pub stack_room : d < w + 1
     stack_room = omega (arith, long, (o.valid.each i here).prefix.short)
 
-    top_end : get_or ends' (suc d) 0 ≡ ends_of i
-    top_end = get_or-set_same ends (suc d) (ends_of i) 0 (omega (arith, o.size_ends, stack_room))
+    top : open_at stack' (suc d) ≡ here_open
+    top = get_or-set_same stack (suc d) here_open (open_route 0 0) (omega (arith, o.size, stack_room))
 
-    top_port : get_or ports' (suc d) 0 ≡ (R i).port
-    top_port = get_or-set_same ports (suc d) (R i).port 0 (omega (arith, o.size_ports, stack_room))
+    below : (j : ℕ) → (j ≡ suc d → ⊥) → open_at stack' j ≡ open_at stack j
+    below j ne = get_or-set_other stack (suc d) j here_open (open_route 0 0) ne
 
-    holds : (j : ℕ) → j < suc d → Held w R (suc i) j (get_or ends' (suc j) 0)
+    holds : (j : ℕ) → j < suc d → Held w R (suc i) j (open_at stack' (suc j)).end
     holds j k =
         ⊎_elim
         (λ (t : eqb j d ≡ true).
@@ -166,7 +163,7 @@ module _ (w : ℕ) (R : ℕ → Route) (n : ℕ) where
           which = i;
           earlier = omega arith;
           long = omega (arith, long);
-          end_is = ap (λ (x : ℕ). get_or ends' (suc x) 0) q ∙ top_end;
+          end_is = ap (λ (x : ℕ). (open_at stack' (suc x)).end) q ∙ ap (λ (x : OpenRoute). x.end) top;
         })
         (λ (t : eqb j d ≡ false).
         let ne : (j ≡ d → ⊥) = eqb-false j d t in
@@ -175,53 +172,49 @@ module _ (w : ℕ) (R : ℕ → Route) (n : ℕ) where
           which = q.which;
           earlier = omega (arith, q.earlier);
           long = q.long;
-          end_is = get_or-set_other ends (suc d) (suc j) (ends_of i) 0 (λ e. ne (omega arith)) ∙ q.end_is;
+          end_is = ap (λ (x : OpenRoute). x.end) (below (suc j) (λ e. ne (omega arith))) ∙ q.end_is;
         })
         (way (eqb j d))
 
-    sees_pushed : (a : ℕ) → at ≤ a → last_match w R (suc i) a ≡ look ends' ports' (suc d) a
+    sees_pushed : (a : ℕ) → at ≤ a → last_match w R (suc i) a ≡ look stack' (suc d) a
     unfolding look last_match
     sees_pushed a k =
-        rw (matches_within w (R i).value (R i).len a, top_end, top_port, look_set ends ports d d (ends_of i) (R i).port a (omega arith), le-leb (first w (R i).value (R i).len) a (omega (arith, begun, first_is o.valid i here)), o.sees a k)
+        rw (matches_within w (R i).value (R i).len a, top, look_set stack here_open d d a (omega arith), le-leb (first w (R i).value (R i).len) a (omega (arith, begun, first_is o.valid i here)), o.sees a k)
         refl
 
-    pub open_pushed : Open w R n (set ends (d + 1) (ends_of i)) (set ports (d + 1) (R i).port) (d + 1) (i + 1) at
+    pub open_pushed : Open w R n (set stack (d + 1) here_open) (d + 1) (i + 1) at
     open_pushed = rw (add-one d, add-one i) (record {
       valid = o.valid;
       taken = omega (arith, here);
       deep = omega (arith, stack_room);
-      size_ends = length-set ends (suc d) (ends_of i) ∙ o.size_ends;
-      size_ports = length-set ports (suc d) (R i).port ∙ o.size_ports;
-      whole = get_or-set_other ends (suc d) 0 (ends_of i) 0 (λ e. omega arith) ∙ o.whole;
-      none = get_or-set_other ports (suc d) 0 (R i).port 0 (λ e. omega arith) ∙ o.none;
+      size = length-set stack (suc d) here_open ∙ o.size;
+      whole = below 0 (λ e. omega arith) ∙ o.whole;
       held = holds;
       sees = sees_pushed;
     })
 
   -- what the open routes give an address before the innermost has ended
-  look_top : (ends ports : List ℕ) (d i at a : ℕ) → Open w R n ends ports d i at → a ≤ get_or ends d 0 → look ends ports d a ≡ get_or ports d 0
+  look_top : (stack : List OpenRoute) (d i at a : ℕ) → Open w R n stack d i at → a ≤ (open_at stack d).end → look stack d a ≡ (open_at stack d).port
   unfolding look
-  look_top ends ports zero i at a o h = sym o.none
-  look_top ends ports (suc d) i at a o h = rw (le-leb a (get_or ends (suc d) 0) h) refl
+  look_top stack zero i at a o h = sym (ap (λ (x : OpenRoute). x.port) o.whole)
+  look_top stack (suc d) i at a o h = rw (le-leb a (open_at stack (suc d)).end h) refl
 
   -- up to the end of the innermost, and before the next begins, there is one port
-  pub open_port : (ends ports : List ℕ) (d i at a : ℕ) → Open w R n ends ports d i at → at ≤ a → a ≤ get_or ends d 0 → (i < n → a < (R i).value)
-      → scan_of w R n a ≡ get_or ports d 0
-  open_port ends ports d i at a o h e s =
+  pub open_port : (stack : List OpenRoute) (d i at a : ℕ) → Open w R n stack d i at → at ≤ a → a ≤ (open_at stack d).end → (i < n → a < (R i).value)
+      → scan_of w R n a ≡ (open_at stack d).port
+  open_port stack d i at a o h e s =
       let z : i + (n - i) ≡ n = omega (arith, o.taken) in
       scan_is_last w R n a o.valid ∙ ap (λ (k : ℕ). last_match w R k a) (sym z)
-      ∙ later_none o.valid i a s (n - i) (omega (arith, o.taken)) ∙ o.sees a h ∙ look_top ends ports d i at a o e
+      ∙ later_none o.valid i a s (n - i) (omega (arith, o.taken)) ∙ o.sees a h ∙ look_top stack d i at a o e
 
   -- and they tell it from any later address on
-  pub open_on : (ends ports : List ℕ) (d i at to : ℕ) → Open w R n ends ports d i at → at ≤ to → Open w R n ends ports d i to
-  open_on ends ports d i at to o h = record {
+  pub open_on : (stack : List OpenRoute) (d i at to : ℕ) → Open w R n stack d i at → at ≤ to → Open w R n stack d i to
+  open_on stack d i at to o h = record {
     valid = o.valid;
     taken = o.taken;
     deep = o.deep;
-    size_ends = o.size_ends;
-    size_ports = o.size_ports;
+    size = o.size;
     whole = o.whole;
-    none = o.none;
     held = o.held;
     sees = λ a k. o.sees a (omega arith);
   }

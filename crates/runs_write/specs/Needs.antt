@@ -1,5 +1,5 @@
 -- For the proofs: what the inner functions of the listing ask of each other and leave. RULES, "The run listing". Assumes nothing.
-use Rattle.std.specs.Prelude.{◌≡◌, Bool, true, cond, List, ℕ, suc, ◌+◌, ◌-◌, ◌*◌, ◌^◌, ◌≤◌, ◌<◌, length, get_or}
+use Rattle.std.specs.Prelude.{◌≡◌, Bool, true, cond, List, ℕ, suc, ◌+◌, ◌-◌, ◌*◌, ◌^◌, ◌≤◌, ◌<◌, length}
 use Rattle.promise.specs.Over.{over, store_three}
 use Rattle.bits.specs.Prefix.{last}
 use Rattle.routes.specs.Routes.{ValidList}
@@ -8,7 +8,8 @@ use Rattle.routes.specs.declared.Route.{Route}
 use Rattle.runs_rules.specs.Runs.{Run, run_size, run_words}
 use Rattle.runs_rules.specs.Listing.{listed}
 use Rattle.runs_rules.specs.Theorems.{most_runs}
-use Rattle.runs_write.specs.Sweep.{look, turned, turned_left, gone_on, gone_on_left}
+use Rattle.runs_write.specs.Sweep.{open_route, open_at, look, turned, turned_left, gone_on, gone_on_left}
+use Rattle.runs_write.specs.declared.sweep.OpenRoute.{OpenRoute}
 use Rattle.runs_write.specs.declared.sweep.OpenRun.{OpenRun}
 
 -- the end of a route before route i that is at least j bits long
@@ -20,16 +21,14 @@ pub record Held (w : ℕ) (R : ℕ → Route) (i j e : ℕ) : Type 0 where
 
 -- of the first i of n valid routes, the ones on the stack are those open at an address: they tell the port of every address
 -- from there on, as far as these i routes go; below them is the whole space, to no port
-pub record Open (w : ℕ) (R : ℕ → Route) (n : ℕ) (ends ports : List ℕ) (depth i at : ℕ) : Type 0 where
+pub record Open (w : ℕ) (R : ℕ → Route) (n : ℕ) (stack : List OpenRoute) (depth i at : ℕ) : Type 0 where
   pub valid : ValidList w R n
   pub taken : i ≤ n
   pub deep : depth ≤ w + 1
-  pub size_ends : length ends ≡ w + 2
-  pub size_ports : length ports ≡ w + 2
-  pub whole : get_or ends 0 0 ≡ 2 ^ w - 1
-  pub none : get_or ports 0 0 ≡ 0
-  pub held : (j : ℕ) → j < depth → Held w R i j (get_or ends (suc j) 0)
-  pub sees : (a : ℕ) → at ≤ a → last_match w R i a ≡ look ends ports depth a
+  pub size : length stack ≡ w + 2
+  pub whole : open_at stack 0 ≡ open_route (2 ^ w - 1) 0
+  pub held : (j : ℕ) → j < depth → Held w R i j (open_at stack (suc j)).end
+  pub sees : (a : ℕ) → at ≤ a → last_match w R i a ≡ look stack depth a
 
 -- room for run k, where it is to be written
 pub record RoomFor (lent : List ℕ) (write : Bool) (k : ℕ) : Type 0 where

@@ -5,16 +5,23 @@ use Rattle.promise.specs.Over.{store_three}
 use Rattle.bits.specs.Prefix.{first}
 use Rattle.routes.specs.declared.Route.{Route}
 use Rattle.runs_rules.specs.Runs.{run_size}
+use Rattle.runs_write.specs.declared.sweep.OpenRoute.{OpenRoute}
 use Rattle.runs_write.specs.declared.sweep.OpenRun.{OpenRun}
 
 -- where route i begins; past the n routes, the last of all addresses
 unfoldable pub start_of : ℕ → (ℕ → Route) → ℕ → ℕ → ℕ
 start_of w R n i = cond (ltb i n) (first w (R i).value (R i).len) (2 ^ w - 1)
 
--- the port that the open routes, of the given ends and ports, give an address: innermost first, and none below the first
-unfoldable pub look : List ℕ → List ℕ → ℕ → ℕ → ℕ
-look ends ports zero a = 0
-look ends ports (suc d) a = cond (leb a (get_or ends (suc d) 0)) (get_or ports (suc d) 0) (look ends ports d a)
+abbrev pub open_route : ℕ → ℕ → OpenRoute
+open_route end port = record { end = end; port = port }
+
+abbrev pub open_at : List OpenRoute → ℕ → OpenRoute
+open_at stack d = get_or stack d (open_route 0 0)
+
+-- the port that the open routes on the stack give an address: innermost first, and none below the first
+unfoldable pub look : List OpenRoute → ℕ → ℕ → ℕ
+look stack zero a = 0
+look stack (suc d) a = cond (leb a (open_at stack (suc d)).end) (open_at stack (suc d)).port (look stack d a)
 
 abbrev pub open_run : ℕ → ℕ → ℕ → ℕ → OpenRun
 open_run first next port count = record { first = first; next = next; port = port; count = count }

@@ -1,13 +1,14 @@
 // The sweep over the addresses that lists the runs of a valid list, with the routes that are open at the present one on a stack.
 ghost use Rattle.std.specs.Prelude.{◌≡◌};
 ghost use Rattle.promise.specs.Over.{outcome};
+ghost use Rattle.refusals.specs.Refusals.{answered};
 ghost use Rattle.routes.specs.Routes.{route_at, ValidList};
 ghost use Rattle.runs_rules.specs.Listing.{listed, write_runs};
 ghost use Rattle.runs_write.specs.Sweep.{start_of};
 ghost use Rattle.runs_write.specs.Needs.{RoomFor, Ended, Turned, GoneOn, Sweepable, Swept};
 
 use crate::RUN_SIZE;
-use refusals::{Answer, NO_ROOM};
+use refusals::{Fault, Refusal};
 use routes::route_at;
 
 // The last of all addresses.
@@ -24,6 +25,13 @@ struct OpenRun {
     next: u32,
     port: u32,
     count: usize,
+}
+
+// A route that is open at the present address: its last address, and its port.
+#[derive(Clone, Copy)]
+struct OpenRoute {
+    end: u32,
+    port: u32,
 }
 
 // Where route i begins; past the n routes, the last of all addresses.
@@ -57,19 +65,14 @@ fn turn_to(runs: &mut [u32], run: OpenRun, port: u32, write: bool) -> OpenRun
     ensures { Turned runs.old write run port result runs.new }
 {
     if (run.next == 0) | (port == run.port) {
-        return OpenRun {
-            first: run.first,
-            next: run.next,
-            port,
-            count: run.count,
-        };
+        return OpenRun { port, ..run };
     }
     let count = end_run(runs, run.count, run.first, run.next - 1, run.port, write);
     OpenRun {
         first: run.next,
-        next: run.next,
         port,
         count,
+        ..run
     }
 }
 
@@ -83,10 +86,9 @@ fn go_on(runs: &mut [u32], run: OpenRun, to: u32, port: u32, write: bool) -> Ope
     }
     let turned = turn_to(runs, run, port, write);
     OpenRun {
-        first: turned.first,
         next: to,
         port,
-        count: turned.count,
+        ..turned
     }
 }
 
@@ -96,8 +98,11 @@ fn sweep(list: &[u32], n: usize, runs: &mut [u32], write: bool) -> usize
     requires { Sweepable 32 (route_at list.now) n runs.old write }
     ensures { Swept (listed 32 (route_at list.now) n) write result runs.old runs.new }
 {
-    let mut ends = [LAST_ADDRESS; STACK_SIZE];
-    let mut ports = [0u32; STACK_SIZE];
+    let whole = OpenRoute {
+        end: LAST_ADDRESS,
+        port: 0,
+    };
+    let mut stack = [whole; STACK_SIZE];
     let mut depth: usize = 0;
     let mut run = OpenRun {
         first: 0,
@@ -108,8 +113,7 @@ fn sweep(list: &[u32], n: usize, runs: &mut [u32], write: bool) -> usize
     let mut i: usize = 0;
     let mut start = start_of(list, n, 0);
     loop {
-        let stop = ends[depth];
-        let port = ports[depth];
+        let OpenRoute { end: stop, port } = stack[depth];
         if stop < start {
             run = go_on(runs, run, stop + 1, port, write);
             depth -= 1;
@@ -122,36 +126,38 @@ fn sweep(list: &[u32], n: usize, runs: &mut [u32], write: bool) -> usize
         run = go_on(runs, run, start, port, write);
         let route = route_at(list, i);
         depth += 1;
-        ends[depth] = route.prefix().last();
-        ports[depth] = route.port;
+        stack[depth] = OpenRoute {
+            end: route.prefix().last(),
+            port: route.port,
+        };
         i += 1;
         start = start_of(list, n, i);
     }
 }
 
 // Where the lent memory may be short for the runs, they are counted first, so that nothing is written before 9 is known.
-fn write_counted(list: &[u32], n: usize, runs: &mut [u32]) -> Answer
+fn write_counted(list: &[u32], n: usize, runs: &mut [u32]) -> Result<u32, Refusal>
     requires { ValidList 32 (route_at list.now) n }
-    ensures { outcome result runs.new ≡ write_runs (listed 32 (route_at list.now) n) runs.old }
+    ensures { outcome (answered result) runs.new ≡ write_runs (listed 32 (route_at list.now) n) runs.old }
 {
     let count = sweep(list, n, runs, false);
     if runs.len() / RUN_SIZE < count {
-        return Answer::refused(NO_ROOM, 0);
+        return Err(Fault::NoRoom.at(0));
     }
     sweep(list, n, runs, true);
-    Answer::accepted(count as u32)
+    Ok(count as u32)
 }
 
 // The runs of the first n routes of a list that is known to be valid. Refuses 9, no room for them; else their
 // words, and their number. n routes have at most 2n+1 runs: with room for those, nothing is refused.
-pub(crate) fn write_runs(list: &[u32], n: usize, runs: &mut [u32]) -> Answer
+pub(crate) fn write_runs(list: &[u32], n: usize, runs: &mut [u32]) -> Result<u32, Refusal>
     requires { ValidList 32 (route_at list.now) n }
-    ensures { outcome result runs.new ≡ write_runs (listed 32 (route_at list.now) n) runs.old }
+    ensures { outcome (answered result) runs.new ≡ write_runs (listed 32 (route_at list.now) n) runs.old }
 {
     let room = runs.len() / RUN_SIZE;
     if 2 * n < room {
         let count = sweep(list, n, runs, true);
-        return Answer::accepted(count as u32);
+        return Ok(count as u32);
     }
     write_counted(list, n, runs)
 }

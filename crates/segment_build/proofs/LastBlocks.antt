@@ -29,7 +29,6 @@ use Rattle.segment_build.proofs.Storing.{gathered_to, block_room, block_more}
 
 -- the last blocks before `next` are stored
 pub record LastTo (R : ℕ → Route) (n : ℕ) (runs lent : List ℕ) (i next number run : ℕ) (last : List ℕ) : Type 0 where
-  pub taken : i ≤ n
   pub passed : Passed 32 R n 24 i next
   pub low : next ≤ 2 ^ 24
   pub numbered : number ≡ number_below (has_last R n) next
@@ -43,7 +42,6 @@ module _ (R : ℕ → Route) (n : ℕ) (runs lent : List ℕ) (room : LastRoom R
   pub last_none : LastTo R n runs lent 0 0 0 0 lent
   unfolding in_order
   last_none = record {
-    taken = omega arith;
     passed = passed_none 32 R n 24 valid;
     low = omega arith;
     numbered = sym (number_zero (has_last R n));
@@ -69,7 +67,6 @@ module _ (R : ℕ → Route) (n : ℕ) (runs lent : List ℕ) (room : LastRoom R
 
       pub last_on : new ≡ false → LastTo R n runs lent (i + 1) next number run last
       last_on f = record {
-        taken = omega arith;
         passed = passed_on 32 R n 24 valid i next st.passed (sym new_is ∙ f);
         low = st.low;
         numbered = st.numbered;
@@ -106,7 +103,6 @@ module _ (R : ℕ → Route) (n : ℕ) (runs lent : List ℕ) (room : LastRoom R
 
         pub last_more : (run' : ℕ) (last' : List ℕ) → PutLast runs run y run' last number last' → LastTo R n runs lent (i + 1) (y + 1) (number + 1) run' last'
         last_more run' last' p = record {
-          taken = omega arith;
           passed = rw y_is (passed_new 32 R n 24 valid i next st.passed h begins);
           low = omega (arith, y_low);
           numbered = ap (λ (k : ℕ). k + 1) number_is ∙ sym (number_pass (has_last R n) y here);
@@ -122,10 +118,9 @@ module _ (R : ℕ → Route) (n : ℕ) (runs lent : List ℕ) (room : LastRoom R
                 list_of_same (λ b. port_from runs run b) (scan_of 32 R n) 256 (y * block_size) (λ b u v.
                 sym (st.resumes b (omega (arith, later))) ∙ room.ready.ported b (omega (arith, y_low)))
 
-    pub last_all : n ≤ i → last ≡ over (last_store R n) lent
+    pub last_all : i ≡ n → last ≡ over (last_store R n) lent
     unfolding last_store
-    last_all h =
-        let e : i ≡ n = omega (arith, st.taken) in
+    last_all e =
         let p : Passed 32 R n 24 n next = rw e at st.passed in
         st.stored
         ∙ ap (λ (xs : List ℕ). over xs lent)

@@ -7,7 +7,7 @@ use Prim.Native.Nat.{ℕ, ◌+◌, ◌-◌, ◌*◌, ◌^◌, ◌≤◌, ◌<◌
 use native.Mathlib.Omega.{arith}
 use native.Mathlib.Nat.{mul-le-mul_right, suc-mul}
 use lib.ListN.{length, get_or, set, drop}
-use lib.Seq.{sets, set-append_left, ext_get_or}
+use lib.Seq.{sets, set-append_left}
 use lib.Dec.{eqb}
 use borrow.Author.Tests.{eqb-true, eqb-false}
 use Rattle.lists.proofs.Tests.{way}
@@ -15,13 +15,14 @@ use Rattle.promise.specs.Over.{over}
 use Rattle.promise.proofs.Over.{over_sets, length_over}
 use Rattle.lists.specs.Below.{number_below, gathered}
 use Rattle.lists.specs.Numbered.{list_of, in_order}
-use Rattle.lists.proofs.Numbered.{length_list_of, get_d_list_of}
+use Rattle.lists.proofs.Numbered.{length_list_of}
 use Rattle.lists.proofs.Below.{number_lt, number_mono, gathered_pass, gathered_skip, length_gathered}
 use Rattle.routes.specs.declared.Route.{Route}
 use Rattle.segment_rules.specs.Blocks.{port_at}
 use Rattle.segment_rules.specs.Packed.{block_size, packed_size, is_packed, packed_block}
 use Rattle.segment_rules.specs.Tables.{pointer, plain_pointer, first_size, has_segment, segment, has_packed, has_plain, segment_pointer, first_entry, first_table, packed_store, plain_store}
 use Rattle.segment_rules.proofs.Stores.{length_segment, packed_each, plain_each, packed_of, plain_of, neither_of}
+use Rattle.segment_pack.proofs.Codewords.{words_back}
 use Rattle.segment_build.specs.declared.segments.Walk.{Walk}
 use Rattle.segment_build.specs.declared.segments.Segment.{Segment}
 use Rattle.segment_build.specs.Needs.{marked, Walked, Met, SegmentMet, SegmentRoom, PutSegment, SegmentsRoom, Stored, FilledSegments}
@@ -88,11 +89,7 @@ module _ (test : ℕ → Bool) (f : ℕ → List ℕ) (size most : ℕ) (each : 
 
 -- the entries of a segment, one by one, are the segment
 pub entries_back : (R : ℕ → Route) (n x : ℕ) (entries : List ℕ) → entries ≡ segment R n x → list_of (λ i. get_or entries i 0) block_size 0 ≡ segment R n x
-entries_back R n x entries e =
-    ext_get_or 0 (list_of (λ i. get_or entries i 0) block_size 0) (segment R n x)
-    (length_list_of (λ i. get_or entries i 0) 256 0 ∙ sym (length_segment R n x))
-    (λ i h. let z : 0 + i ≡ i = omega arith in
-    get_d_list_of (λ j. get_or entries j 0) 256 0 i 0 (omega (arith, h, length_list_of (λ j. get_or entries j 0) 256 0)) ∙ rw (z, e))
+entries_back R n x entries e = words_back entries block_size (ap length e ∙ length_segment R n x) ∙ e
 
 -- the three stores
 
@@ -226,22 +223,3 @@ module _ (R : ℕ → Route) (n : ℕ) (runs first packed plain : List ℕ) (roo
           ∙ ap (λ (xs : List ℕ). over xs plain)
           (sym (gathered_to (has_plain R n) (segment R n) w.next (2 ^ 16) walked.low (λ z a b. (neither_of R n z (none_left z a b)).1)));
     }
-
-  -- the stores keep their lengths
-  module _ (next : ℕ) (below : next ≤ 2 ^ 16) (first' packed' plain' : List ℕ) (st : Stored R n first packed plain next first' packed' plain') where
-    pub length_first_stored : length first' ≡ length first
-    length_first_stored = ap length st.first_is ∙ length_over (marks next) first (omega (arith, length_marks next, room.first_room))
-
-    pub length_packed_stored : length packed' ≡ length packed
-    length_packed_stored =
-        let l = length_gathered (has_packed R n) (λ x. packed_block (segment R n x)) packed_size next (λ y a t. packed_each R n y (omega arith) t) in
-        ap length st.packed_is
-        ∙ length_over (gathered (has_packed R n) (λ x. packed_block (segment R n x)) next) packed
-        (omega (arith, l, room.packed_room, number_mono (has_packed R n) next (2 ^ 16) below))
-
-    pub length_plain_stored : length plain' ≡ length plain
-    length_plain_stored =
-        let l = length_gathered (has_plain R n) (segment R n) block_size next (λ y a t. plain_each R n y (omega arith) t) in
-        ap length st.plain_is
-        ∙ length_over (gathered (has_plain R n) (segment R n) next) plain
-        (omega (arith, l, room.plain_room, number_mono (has_plain R n) next (2 ^ 16) below))

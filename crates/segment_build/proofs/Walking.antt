@@ -1,5 +1,5 @@
 -- A pass over the segments: what one of them adds, and what is counted in the end. Assumes nothing.
-use mathlib.Core.Path.{◌≡◌, refl, sym, ap, ◌∙◌}
+use mathlib.Core.Path.{◌≡◌, refl, sym, ap, subst, ◌∙◌}
 use mathlib.Core.Bool.{Bool, true, false, and-false, true≢false}
 use mathlib.Core.List.{List}
 use Prim.Native.Nat.{ℕ, ◌+◌, ◌*◌, ◌/◌, ◌^◌, ◌≤◌, ◌<◌}
@@ -23,7 +23,7 @@ use Rattle.segment_ports.specs.Needs.{Resumes, Blocks, Ported}
 use Rattle.segment_build.specs.declared.segments.Walk.{Walk}
 use Rattle.segment_build.specs.declared.segments.Segment.{Segment}
 use Rattle.segment_build.specs.Walks.{walk, walk_after}
-use Rattle.segment_build.specs.Needs.{is_new, Passed, Ready, Begun, Pointed, Walked, Met, SegmentMet, Counted}
+use Rattle.segment_build.specs.Needs.{is_new, Passed, Ready, Begun, Pointed, Walked, Met, SegmentMet, NextSegment, Counted}
 use Rattle.segment_build.proofs.Passes.{blocks_rise, passed_none, passed_on, passed_new, from_next, new_longer, none_before_new, none_after}
 use Rattle.segment_build.proofs.Naming.{number_to}
 
@@ -92,16 +92,16 @@ module _ (R : ℕ → Route) (n : ℕ) where
       resumes = st.resumes;
     }
 
-    -- at the end
-    pub counted_all : n ≤ i → Passed 32 R n 16 n w.next → Counted R n w
-    counted_all h p =
-        let none : (x : ℕ) → w.next ≤ x → x < 2 ^ 16 → has_segment R n x ≡ false = λ x u v. none_after 32 R n 16 ok w.next p x u in
-        record {
-          packed_are = st.packed_are ∙ sym (none_packed w.next (2 ^ 16) st.low none);
-          plain_are = st.plain_are ∙ sym (none_plain w.next (2 ^ 16) st.low none);
-          last_are = st.last_are ∙ sym (none_last w.next (2 ^ 16) st.low none);
-          few = walked_few;
-        }
+  -- at the end
+  pub counted_all : (runs : List ℕ) (w : Walk) → Ready R n runs → Walked R n runs n w → Counted R n w
+  counted_all runs w ready st =
+      let none : (x : ℕ) → w.next ≤ x → x < 2 ^ 16 → has_segment R n x ≡ false = λ x u v. none_after 32 R n 16 ready.valid w.next st.passed x u in
+      record {
+        packed_are = st.packed_are ∙ sym (none_packed w.next (2 ^ 16) st.low none);
+        plain_are = st.plain_are ∙ sym (none_plain w.next (2 ^ 16) st.low none);
+        last_are = st.last_are ∙ sym (none_last w.next (2 ^ 16) st.low none);
+        few = walked_few runs n w ready st;
+      }
 
 -- route i begins segment x
 module _ (R : ℕ → Route) (n : ℕ) (runs : List ℕ) (i x : ℕ) (w : Walk) (met : Met R n runs i x w) where
@@ -189,9 +189,11 @@ module _ (R : ℕ → Route) (n : ℕ) (runs : List ℕ) (i x : ℕ) (w : Walk) 
       next_of true = refl
       next_of false = refl
 
-      pub segment_met : (s : Segment) → s.entries ≡ left → s.packed ≡ packed → s.after ≡ walk_after w x packed last run
+      pub segment_met : (s : Segment) → s.x ≡ x → s.from ≡ i + 1 → s.entries ≡ left → s.packed ≡ packed → s.after ≡ walk_after w x packed last run
           → SegmentMet R n runs i x w s
-      segment_met s e f g = record {
+      segment_met s a b e f g = record {
+        x_is = a;
+        from_is = b;
         entries_are = e ∙ q.is;
         packed_is = f ∙ packed_is;
         next_is_lem = ap (λ (v : Walk). v.next) g ∙ next_of packed;
@@ -216,8 +218,23 @@ module _ (R : ℕ → Route) (n : ℕ) (runs : List ℕ) (i : ℕ) (w : Walk) (r
   pub goes_by : Ready R n runs → Walked R n runs i w → new ≡ false → Walked R n runs (i + 1) w
   goes_by ready st f = walked_on R n runs i w ready st (sym new_is ∙ f)
 
-pub walked_end : (R : ℕ → Route) (n : ℕ) (runs : List ℕ) (i : ℕ) (w : Walk) → Walked R n runs i w → i ≤ n → n ≤ i → Walked R n runs n w
-walked_end R n runs i w st h k = let e : i ≡ n = omega arith in rw e at st
+-- route i is found to begin the next segment
+pub next_met : (R : ℕ → Route) (n : ℕ) (runs : List ℕ) (i : ℕ) (w : Walk) (from x : ℕ) (s : Segment) → from ≤ i → Met R n runs i x w → SegmentMet R n runs i x w s
+    → NextSegment R n runs from w s
+next_met R n runs i w from x s h met is = record {
+  route = i;
+  later = h;
+  met = subst (λ (y : ℕ). Met R n runs i y w) (sym is.x_is) met;
+  is = subst (λ (y : ℕ). SegmentMet R n runs i y w s) (sym is.x_is) is;
+}
 
-pub counted_end : (R : ℕ → Route) (n : ℕ) (runs : List ℕ) (i : ℕ) (w : Walk) → Ready R n runs → Walked R n runs i w → i ≤ n → n ≤ i → Counted R n w
-counted_end R n runs i w ready st h k = counted_all R n runs i w ready st k (walked_end R n runs i w st h k).passed
+module _ (R : ℕ → Route) (n : ℕ) (runs : List ℕ) (i : ℕ) (w : Walk) (s : Segment) (next : NextSegment R n runs i w s) where
+  -- the pass goes on after it
+  pub next_walked : Walked R n runs s.from s.after
+  next_walked = rw next.is.from_is next.is.after_is
+
+  pub next_passes : (i < s.from) × (s.from ≤ n)
+  next_passes = (omega (arith, next.is.from_is, next.later), omega (arith, next.is.from_is, next.met.listed))
+
+pub walked_end : (R : ℕ → Route) (n : ℕ) (runs : List ℕ) (i : ℕ) (w : Walk) → Walked R n runs i w → i ≡ n → Walked R n runs n w
+walked_end R n runs i w st e = rw e at st

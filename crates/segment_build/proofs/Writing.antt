@@ -28,7 +28,6 @@ use Rattle.runs_rules.proofs.Listing.{listed_lists, never_too_many, list_runs_re
 use Rattle.segment_rules.specs.Blocks.{port_at}
 use Rattle.segment_rules.specs.Packed.{block_size, packed_size}
 use Rattle.segment_rules.specs.Tables.{first_size, first_table, packed_store, plain_store, last_store}
-use Rattle.segment_rules.specs.declared.Built.{Built}
 use Rattle.segment_rules.specs.Build.{Stores, stores, Left, left, refused_build, done_build, have_room, tables_over, segments_into, build_segments}
 use Rattle.segment_rules.proofs.AfterBuild.{build_into_lem}
 use Rattle.segment_rules.proofs.Stores.{length_first, length_packed_store, length_plain_store, length_last_store}
@@ -101,16 +100,15 @@ module _ (R : ℕ → Route) (n : ℕ) (s : Stores) (room : first_size ≤ lengt
         last_room = omega (arith, leb-true (w.last * block_size) (length s.last) a.1, counted.last_are);
       }
 
-  pub into_written : there ≡ true → (t : Stores) → t ≡ tables_over R n s → (b : Built) → b ≡ done_build w.packed w.plain w.last
-      → left b t ≡ segments_into R n s
+  pub into_written : there ≡ true → (t : Stores) → t ≡ tables_over R n s → left (done_build w.packed w.plain w.last) t ≡ segments_into R n s
   unfolding segments_into
-  into_written h t e b f =
+  into_written h t e =
       rw (have_room_is, h)
-      (λ j. left ((f ∙ (λ i. done_build (counted.packed_are i) (counted.plain_are i) (counted.last_are i))) j) (e j))
+      (λ j. left (done_build (counted.packed_are j) (counted.plain_are j) (counted.last_are j)) (e j))
 
-  pub into_short : there ≡ false → (b : Built) → b ≡ refused_build no_room 0 → left b s ≡ segments_into R n s
+  pub into_short : there ≡ false → left (refused_build no_room 0) s ≡ segments_into R n s
   unfolding segments_into
-  into_short h b f = rw (have_room_is, h) (ap (λ (x : Built). left x s) f)
+  into_short h = rw (have_room_is, h)
 
 -- what a build answers: the runs of the list are asked for in room for as many as a list can have
 module _ (list lent runs : List ℕ) (listing : Answer) (fits : Words 32 list) (size : length lent ≡ most_runs * run_size)
@@ -118,13 +116,13 @@ module _ (list lent runs : List ℕ) (listing : Answer) (fits : Words 32 list) (
   number_is : listing.number ≡ (list_check 32 list).number
   number_is = ap (λ (o : Outcome Answer). o.answer.number) is ∙ number_list_runs_roomy 32 list lent fits (omega (arith, size))
 
-  pub build_refused : (listing.number ≡ 0 → ⊥) → (b : Built) → b ≡ refused_build listing.number listing.place → left b s ≡ build_segments list s
+  pub build_refused : (listing.number ≡ 0 → ⊥) → left (refused_build listing.number listing.place) s ≡ build_segments list s
   unfolding build_segments
-  build_refused f b e =
+  build_refused f =
       let wrong : (list_check 32 list).number ≡ 0 → ⊥ = λ z. f (number_is ∙ z) in
       let checked : listing ≡ list_check 32 list = ap (λ (o : Outcome Answer). o.answer) (is ∙ list_runs_refused 32 list lent wrong) in
       rw (ne_eqb (list_check 32 list).number 0 wrong)
-      (ap (λ (x : Built). left x s) (e ∙ ap (λ (a : Answer). refused_build a.number a.place) checked))
+      (ap (λ (a : Answer). left (refused_build a.number a.place) s) checked)
 
   module _ (z : listing.number ≡ 0) where
     accepted_number : (list_check 32 list).number ≡ 0
@@ -148,9 +146,8 @@ module _ (list lent runs : List ℕ) (listing : Answer) (fits : Words 32 list) (
     pub build_is_into : {b : Left} → b ≡ segments_into (route_at list) (route_count list) s → b ≡ build_segments list s
     build_is_into e = e ∙ sym (build_into_lem list s accepted_number)
 
-    pub build_no_first : length s.first < first_size → (b : Built) → b ≡ refused_build no_room 0 → left b s ≡ build_segments list s
+    pub build_no_first : length s.first < first_size → left (refused_build no_room 0) s ≡ build_segments list s
     unfolding segments_into
-    build_no_first h b e =
+    build_no_first h =
         build_is_into
-        (rw (lt-leb (length (first_table (route_at list) (route_count list))) (length s.first) (omega (arith, length_first (route_at list) (route_count list))))
-        (ap (λ (x : Built). left x s) e))
+        (rw (lt-leb (length (first_table (route_at list) (route_count list))) (length s.first) (omega (arith, length_first (route_at list) (route_count list)))))

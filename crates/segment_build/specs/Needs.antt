@@ -69,10 +69,19 @@ pub record Met (R : ℕ → Route) (n : ℕ) (runs : List ℕ) (i x : ℕ) (walk
   pub is : x ≡ head 32 16 (R i).value
 
 pub record SegmentMet (R : ℕ → Route) (n : ℕ) (runs : List ℕ) (i x : ℕ) (walk : Walk) (s : Segment) : Type 0 where
+  pub x_is : s.x ≡ x
+  pub from_is : s.from ≡ i + 1
   pub entries_are : s.entries ≡ segment R n x
   pub packed_is : s.packed ≡ is_packed (segment R n x)
   pub next_is_lem : s.after.next ≡ x + 1
   pub after_is : Walked R n runs (i + 1) s.after
+
+-- the next segment, of which some route from number i on is the first
+pub record NextSegment (R : ℕ → Route) (n : ℕ) (runs : List ℕ) (i : ℕ) (walk : Walk) (s : Segment) : Type 0 where
+  pub route : ℕ
+  pub later : i ≤ route
+  pub met : Met R n runs route s.x walk
+  pub is : SegmentMet R n runs route s.x walk s
 
 -- all segments are counted
 pub record Counted (R : ℕ → Route) (n : ℕ) (walk : Walk) : Type 0 where

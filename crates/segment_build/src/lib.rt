@@ -3,16 +3,16 @@
 #![tactic(auto)]
 
 ghost use Rattle.std.specs.Prelude.{◌≡◌, ◌&&◌, ◌*◌, ◌≤◌, leb, length};
-ghost use Rattle.routes.specs.Routes.{route_at};
+ghost use Rattle.routes.specs.Routes.{route_at, route_count};
 ghost use Rattle.segment_rules.specs.Packed.{block_size, packed_size};
 ghost use Rattle.segment_rules.specs.Tables.{first_size};
-ghost use Rattle.segment_rules.specs.Build.{stores, left, refused_build, done_build, segments_into, build_segments};
+ghost use Rattle.segment_rules.specs.Build.{stores, left, built_of, segments_into, build_segments};
 ghost use Rattle.segment_build.specs.Needs.{Ready};
 
-use refusals::NO_ROOM;
-use routes::{MOST_ROUTES, ROUTE_SIZE};
+use refusals::{Fault, Refusal};
+use routes::MOST_ROUTES;
 use runs_write::{RUN_SIZE, list_runs};
-use segment_rules::{BLOCK_SIZE, Built, FIRST_SIZE, PACKED_SIZE};
+use segment_rules::{BLOCK_SIZE, FIRST_SIZE, PACKED_SIZE, Written};
 use segments::{Walk, count_segments};
 use stores::write_tables;
 
@@ -22,32 +22,6 @@ mod stores;
 
 // The words of as many runs as a list can have.
 const RUNS_SIZE: usize = (2 * MOST_ROUTES + 1) * RUN_SIZE;
-
-// A refusal: its number and its place.
-fn refused(number: u32, place: u32) -> Built
-    ensures { result ≡ refused_build number place }
-{
-    Built {
-        number,
-        place,
-        packed: 0,
-        plain: 0,
-        last: 0,
-    }
-}
-
-// Done, with the packed segments, the plain ones and the last blocks.
-fn done(packed: u32, plain: u32, last: u32) -> Built
-    ensures { result ≡ done_build packed plain last }
-{
-    Built {
-        number: 0,
-        place: 0,
-        packed,
-        plain,
-        last,
-    }
-}
 
 // Whether the stores, of so many words, have room for the blocks that are counted.
 fn have_room(counts: Walk, packed: usize, plain: usize, last: usize) -> bool
@@ -63,26 +37,25 @@ fn have_room(counts: Walk, packed: usize, plain: usize, last: usize) -> bool
 // refusal writes nothing.
 fn build_valid(
     list: &[u32],
-    n: usize,
     runs: &[u32],
     first: &mut [u16],
     packed: &mut [u16],
     plain: &mut [u16],
     last: &mut [u16],
-) -> Built
-    requires { Ready (route_at list.now) n runs.now × (first_size ≤ length first.old) }
-    ensures { left result (stores first.new packed.new plain.new last.new) ≡ segments_into (route_at list.now) n (stores first.old packed.old plain.old last.old) }
+) -> Result<Written, Refusal>
+    requires { Ready (route_at list.now) (route_count list.now) runs.now × (first_size ≤ length first.old) }
+    ensures { left (built_of result) (stores first.new packed.new plain.new last.new) ≡ segments_into (route_at list.now) (route_count list.now) (stores first.old packed.old plain.old last.old) }
 {
-    let counts = count_segments(list, n, runs);
+    let counts = count_segments(list, runs);
     if have_room(counts, packed.len(), plain.len(), last.len()) {
-        write_tables(list, n, runs, first, packed, plain, last);
-        return done(
-            counts.packed as u32,
-            counts.plain as u32,
-            counts.last as u32,
-        );
+        write_tables(list, runs, first, packed, plain, last);
+        return Ok(Written {
+            packed: counts.packed as u32,
+            plain: counts.plain as u32,
+            last: counts.last as u32,
+        });
     }
-    refused(NO_ROOM, 0)
+    Err(Fault::NoRoom.at(0))
 }
 
 // The segment tables of a list, written into the four stores lent. Refuses as the check of the list does, then 9 at place 0 where a store is
@@ -94,25 +67,14 @@ pub fn build(
     packed: &mut [u16],
     plain: &mut [u16],
     last: &mut [u16],
-) -> Built
-    ensures { left result (stores first.new packed.new plain.new last.new) ≡ build_segments list.now (stores first.old packed.old plain.old last.old) }
+) -> Result<Written, Refusal>
+    ensures { left (built_of result) (stores first.new packed.new plain.new last.new) ≡ build_segments list.now (stores first.old packed.old plain.old last.old) }
 {
     let mut runs = [0u32; RUNS_SIZE];
     // There is room for all runs that a list can have, so that this refuses a list that its check refuses, and no other.
-    let listed = list_runs(list, &mut runs);
-    if listed.number != 0 {
-        return refused(listed.number, listed.place);
-    }
+    list_runs(list, &mut runs)?;
     if first.len() < FIRST_SIZE {
-        return refused(NO_ROOM, 0);
+        return Err(Fault::NoRoom.at(0));
     }
-    build_valid(
-        list,
-        list.len() / ROUTE_SIZE,
-        &runs,
-        first,
-        packed,
-        plain,
-        last,
-    )
+    build_valid(list, &runs, first, packed, plain, last)
 }

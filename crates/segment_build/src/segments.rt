@@ -1,11 +1,11 @@
 // The segments of a list, one after the other: their entries, their numbers, and the last blocks that they name.
-ghost use Rattle.std.specs.Prelude.{◌≡◌, ◌+◌, ◌*◌, ◌≤◌, ◌<◌};
-ghost use Rattle.routes.specs.Routes.{route_at};
+ghost use Rattle.std.specs.Prelude.{◌≡◌, ◌+◌, ◌*◌, ◌≤◌, ◌<◌, MatchOption};
+ghost use Rattle.routes.specs.Routes.{route_at, route_count};
 ghost use Rattle.segment_build.specs.Walks.{walk_after};
-ghost use Rattle.segment_build.specs.Needs.{Ready, Begun, Pointed, Met, SegmentMet, Counted};
+ghost use Rattle.segment_build.specs.Needs.{Ready, Begun, Pointed, Walked, Met, SegmentMet, NextSegment, Counted};
 
 use crate::blocks::{begins_new, block_of};
-use routes::route_at;
+use routes::{ROUTE_SIZE, route_at};
 use segment_pack::is_packed;
 use segment_ports::fill_ports;
 use segment_rules::{BLOCK_SIZE, POINTER};
@@ -32,12 +32,14 @@ impl Walk {
     };
 }
 
-// A segment that is met: its entries, whether they are packed, and the pass after it.
+// A segment that is met: its number, its entries, whether they are packed, and the pass after it, from route `from` on.
 #[derive(Clone, Copy)]
 pub(crate) struct Segment {
-    pub entries: [u16; 256],
+    pub x: usize,
+    pub entries: [u16; BLOCK_SIZE],
     pub packed: bool,
     pub after: Walk,
+    pub from: usize,
 }
 
 // The entry that names a block, by what pointers begin with and its number.
@@ -52,31 +54,28 @@ pub(crate) fn pointer_to(base: u32, number: usize) -> u16
 // routes of the segment stand from number `from` on. Gives how many last blocks there are up to the segment's end.
 fn name_lasts(
     list: &[u32],
-    n: usize,
     from: usize,
     x: usize,
-    entries: &mut [u16; 256],
+    entries: &mut [u16; BLOCK_SIZE],
     lasts: usize,
 ) -> usize
-    requires { Begun (route_at list.now) n from x lasts entries.old }
-    ensures { Pointed (route_at list.now) n x result entries.new }
+    requires { Begun (route_at list.now) (route_count list.now) from x lasts entries.old }
+    ensures { Pointed (route_at list.now) (route_count list.now) x result entries.new }
 {
-    let mut i = from;
     let mut next = x * BLOCK_SIZE;
     let mut count = lasts;
-    while i < n {
+    for i in from..list.len() / ROUTE_SIZE {
         let route = route_at(list, i);
         if x < block_of(route, 16) {
             return count;
         }
-        i += 1;
-        if begins_new(route, 24, next) {
-            let block = block_of(route, 24);
-            entries[block % BLOCK_SIZE] = pointer_to(POINTER, count);
-            count += 1;
-            next = block + 1;
+        if !begins_new(route, 24, next) {
             continue;
         }
+        let block = block_of(route, 24);
+        entries[block % BLOCK_SIZE] = pointer_to(POINTER, count);
+        count += 1;
+        next = block + 1;
     }
     count
 }
@@ -90,61 +89,63 @@ fn walk_after(walk: Walk, x: usize, packed: bool, last: usize, run: usize) -> Wa
         return Walk {
             next: x + 1,
             packed: walk.packed + 1,
-            plain: walk.plain,
             last,
             run,
+            ..walk
         };
     }
     Walk {
         next: x + 1,
-        packed: walk.packed,
         plain: walk.plain + 1,
         last,
         run,
+        ..walk
     }
 }
 
 // Segment x, which route i is the first of the list to begin with and go on after.
-pub(crate) fn segment_at(
-    list: &[u32],
-    n: usize,
-    runs: &[u32],
-    i: usize,
-    x: usize,
-    walk: Walk,
-) -> Segment
-    requires { Met (route_at list.now) n runs.now i x walk }
-    ensures { SegmentMet (route_at list.now) n runs.now i x walk result }
+fn segment_at(list: &[u32], runs: &[u32], i: usize, x: usize, walk: Walk) -> Segment
+    requires { Met (route_at list.now) (route_count list.now) runs.now i x walk }
+    ensures { SegmentMet (route_at list.now) (route_count list.now) runs.now i x walk result }
 {
-    let mut entries = [0u16; 256];
+    let mut entries = [0u16; BLOCK_SIZE];
     let run = fill_ports(&mut entries, runs, walk.run, x * BLOCK_SIZE, 8);
-    let last = name_lasts(list, n, i, x, &mut entries, walk.last);
+    let last = name_lasts(list, i, x, &mut entries, walk.last);
     let packed = is_packed(&entries);
     let after = walk_after(walk, x, packed, last, run);
     Segment {
+        x,
         entries,
         packed,
         after,
+        from: i + 1,
     }
 }
 
+// The next segment, by the routes from number `from` on.
+pub(crate) fn next_segment(list: &[u32], runs: &[u32], from: usize, walk: Walk) -> Option<Segment>
+    requires { Ready (route_at list.now) (route_count list.now) runs.now × (from ≤ route_count list.now) × Walked (route_at list.now) (route_count list.now) runs.now from walk }
+    ensures { MatchOption result (Walked (route_at list.now) (route_count list.now) runs.now (route_count list.now) walk) (λ s. NextSegment (route_at list.now) (route_count list.now) runs.now from walk s) }
+{
+    for i in from..list.len() / ROUTE_SIZE {
+        let route = route_at(list, i);
+        if begins_new(route, 16, walk.next) {
+            return Some(segment_at(list, runs, i, block_of(route, 16), walk));
+        }
+    }
+    None
+}
+
 // Goes through the segments and counts them, and the last blocks.
-pub(crate) fn count_segments(list: &[u32], n: usize, runs: &[u32]) -> Walk
-    requires { Ready (route_at list.now) n runs.now }
-    ensures { Counted (route_at list.now) n result }
+pub(crate) fn count_segments(list: &[u32], runs: &[u32]) -> Walk
+    requires { Ready (route_at list.now) (route_count list.now) runs.now }
+    ensures { Counted (route_at list.now) (route_count list.now) result }
 {
     let mut walk = Walk::START;
     let mut i = 0;
-    while i < n {
-        let route = route_at(list, i);
-        if begins_new(route, 16, walk.next) {
-            let s = segment_at(list, n, runs, i, block_of(route, 16), walk);
-            let after = s.after;
-            walk = after;
-            i += 1;
-            continue;
-        }
-        i += 1;
+    while let Some(s) = next_segment(list, runs, i, walk) {
+        walk = s.after;
+        i = s.from;
     }
     walk
 }

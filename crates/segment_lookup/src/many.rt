@@ -1,12 +1,13 @@
 // Many lookups in segment tables in one call: the single lookups one after the other.
 ghost use Rattle.std.specs.Prelude.{◌≡◌, ◌%◌, ◌^◌};
 ghost use Rattle.promise.specs.Over.{outcome};
+ghost use Rattle.refusals.specs.Refusals.{answered};
 ghost use Rattle.segment_rules.specs.Lookup.{first_read, lookup_in};
 ghost use Rattle.many_rules.specs.Many.{element, lookup_many};
 
-use crate::{packed_read, plain_read, port_read, wide, word};
-use many_rules::{UNFOUND, element_of, told};
-use refusals::{Answer, NO_ROOM};
+use crate::{packed_read, plain_read, port_read};
+use many_rules::{UNFOUND, element_of, lookup_many as lookup_each};
+use refusals::Refusal;
 use segment_rules::{FIRST_SIZE, PLAIN_POINTER, POINTER};
 
 // The element of an address, by its entry of the first table. The single lookup has the same three ways in a function of its own: what each
@@ -30,12 +31,12 @@ fn element_at(first: &[u16], packed: &[u16], plain: &[u16], last: &[u16], addres
     if first.len() < FIRST_SIZE {
         return UNFOUND;
     }
-    let at = wide(address / 65536);
-    first_element(packed, plain, last, word(first[at]), address)
+    let at = (address / 65536) as usize;
+    first_element(packed, plain, last, u32::from(first[at]), address)
 }
 
-// Looks each address up, and stores its port in its element of `out`, or 65,535 where the lookup is refused 11; the count answered is 1 if
-// some element is 65,535, else 0. Refuses 9 at place 0 where `out` is shorter than the addresses.
+// Looks each address up, and stores its port in its element of `out`, or 65,535 where the lookup is refused 11; answers 1 if some
+// element is 65,535, else 0. Refuses 9 at place 0 where `out` is shorter than the addresses.
 pub fn lookup_many(
     first: &[u16],
     packed: &[u16],
@@ -43,19 +44,11 @@ pub fn lookup_many(
     last: &[u16],
     addresses: &[u32],
     out: &mut [u16],
-) -> Answer
-    ensures { outcome result out.new ≡ lookup_many (lookup_in first.now packed.now plain.now last.now) addresses.now out.old }
+) -> Result<u32, Refusal>
+    ensures { outcome (answered result) out.new ≡ lookup_many (lookup_in first.now packed.now plain.now last.now) addresses.now out.old }
 {
-    if out.len() < addresses.len() {
-        return Answer::refused(NO_ROOM, 0);
-    }
-    let mut some = false;
-    let mut i: usize = 0;
-    while i < addresses.len() {
-        let element = element_at(first, packed, plain, last, addresses[i]);
-        some = (element == UNFOUND) | some;
-        out[i] = element;
-        i += 1;
-    }
-    told(some)
+    let element = |address: u32|
+        ensures { result ≡ element (lookup_in first.entry.now packed.entry.now plain.entry.now last.entry.now address) }
+    { element_at(first, packed, plain, last, address) };
+    lookup_each(element, addresses, out)
 }

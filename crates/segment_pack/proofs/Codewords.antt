@@ -10,15 +10,17 @@ use lib.Count.{ones, ones-le}
 use lib.Pow.{pow_mono}
 use lib.ListN.{length, get_or, set, drop_of_length-le}
 use borrow.Author.Tests.{eq-eqb, ne_eqb}
+use Rattle.std.proofs.lemmas.Grind.{same_number_lists}
 use Rattle.promise.specs.Over.{over}
 use Rattle.promise.proofs.Over.{over_push}
 use Rattle.lists.specs.Numbered.{list_of}
 use Rattle.lists.proofs.Below.{number_suc, number_zero}
-use Rattle.lists.proofs.Numbered.{list_of_snoc, length_list_of}
+use Rattle.lists.proofs.Numbered.{list_of_snoc, length_list_of, get_d_list_of}
 use Rattle.bits.specs.Bits.{bit, value}
 use Rattle.segment_rules.specs.Packed.{codewords, is_one, ones_below, eight_bits}
 use Rattle.segment_rules.proofs.Ranks.{value_list_of_lt, value_list_of_suc, ones_list_of}
-use Rattle.segment_pack.specs.Pack.{codes, codes_of}
+use Rattle.segment_pack.specs.declared.Code.{Code}
+use Rattle.segment_pack.specs.Pack.{code, code_of, codes_of}
 
 module _ (entries : List ℕ) where
   -- the bit of an entry, way by way
@@ -66,53 +68,51 @@ module _ (entries : List ℕ) where
   pub base_none : 0 ≡ base 0
   base_none = sym (number_zero (is_one entries))
 
--- words that are written one after the other
-pub words_none : (f : ℕ → ℕ) (lent : List ℕ) → lent ≡ over (list_of f 0 0) lent
+-- words, or codewords, that are written one after the other
+pub words_none : {A : Type 0} (f : ℕ → A) (lent : List A) → lent ≡ over (list_of f 0 0) lent
 unfolding list_of
 words_none f lent = refl
 
-pub words_more : (f : ℕ → ℕ) (lent left : List ℕ) (c v : ℕ) → left ≡ over (list_of f c 0) lent → c < length lent → v ≡ f c
+pub words_more : {A : Type 0} (f : ℕ → A) (lent left : List A) (c : ℕ) (v : A) → left ≡ over (list_of f c 0) lent → c < length lent → v ≡ f c
     → set left c v ≡ over (list_of f (c + 1) 0) lent
-words_more f lent left c v e h g =
+words_more {A} f lent left c v e h g =
     let snoc : list_of f c 0 ++ (f c ∷ []) ≡ list_of f (c + 1) 0 =
     ap (λ (k : ℕ). list_of f c 0 ++ (f k ∷ [])) (sym (zero-add c)) ∙ sym (list_of_snoc f c 0) ∙ ap (λ (k : ℕ). list_of f k 0) (sym (add-one c)) in
-    ap₂ (λ (xs : List ℕ) (w : ℕ). set xs c w) e g
+    ap₂ (λ (xs : List A) (w : A). set xs c w) e g
     ∙ over_push (list_of f c 0) lent (f c) c (length_list_of f c 0) h
-    ∙ ap (λ (xs : List ℕ). over xs lent) snoc
+    ∙ ap (λ (xs : List A). over xs lent) snoc
 
-pub words_all : (f : ℕ → ℕ) (lent : List ℕ) (c : ℕ) → length lent ≡ c → over (list_of f c 0) lent ≡ list_of f c 0
-words_all f lent c e =
+pub words_all : {A : Type 0} (f : ℕ → A) (lent : List A) (c : ℕ) → length lent ≡ c → over (list_of f c 0) lent ≡ list_of f c 0
+words_all {A} f lent c e =
     let past : length lent ≤ length (list_of f c 0) = omega (arith, length_list_of f c 0) in
-    ap (λ (xs : List ℕ). list_of f c 0 ++ xs) (drop_of_length-le lent past) ∙ append-nil (list_of f c 0)
+    ap (λ (xs : List A). list_of f c 0 ++ xs) (drop_of_length-le lent past) ∙ append-nil (list_of f c 0)
+
+-- the words of a list, one by one, are the list
+pub words_back : (xs : List ℕ) (n : ℕ) → length xs ≡ n → list_of (λ i. get_or xs i 0) n 0 ≡ xs
+words_back xs n e =
+    let f = λ (i : ℕ). get_or xs i 0 in
+    same_number_lists (list_of f n 0) xs (length_list_of f n 0 ∙ sym e)
+    (λ k h. let z : 0 + k ≡ k = omega arith in get_d_list_of f n 0 k 0 (omega (arith, h, length_list_of f n 0)) ∙ ap f z)
 
 -- the first c codewords are made
-pub record CodedTo (entries bits₀ bases₀ bits bases : List ℕ) (n c : ℕ) : Type 0 where
-  pub few : c ≤ codewords
-  pub bits_are : bits ≡ over (list_of (eight_bits entries) c 0) bits₀
-  pub bases_are : bases ≡ over (list_of (base entries) c 0) bases₀
+pub record CodedTo (entries : List ℕ) (codes₀ codes : List Code) (n c : ℕ) : Type 0 where
+  pub codes_are : codes ≡ over (list_of (code_of entries) c 0) codes₀
   pub ones_are : n ≡ base entries c
   pub ones_few : n ≤ c * 8
 
-module _ (entries bits₀ bases₀ : List ℕ) (sized : length bits₀ ≡ codewords) (sized' : length bases₀ ≡ codewords) where
-  pub coded_none : CodedTo entries bits₀ bases₀ bits₀ bases₀ 0 0
-  unfolding list_of
-  coded_none = record { few = omega arith; bits_are = refl; bases_are = refl; ones_are = base_none entries; ones_few = omega arith }
+module _ (entries : List ℕ) (codes₀ : List Code) (sized : length codes₀ ≡ codewords) where
+  pub coded_none : CodedTo entries codes₀ codes₀ 0 0
+  coded_none = record { codes_are = words_none (code_of entries) codes₀; ones_are = base_none entries; ones_few = omega arith }
 
-  pub coded_more : {bits bases : List ℕ} {n c : ℕ} → CodedTo entries bits₀ bases₀ bits bases n c → c < codewords
-      → (b o : ℕ) → b ≡ eight_bits entries c → o ≡ ones b → b < 256
-      → CodedTo entries bits₀ bases₀ (set bits c b) (set bases c n) (n + o) (c + 1)
-  coded_more {bits} {bases} {n} {c} st h b o is counted small = record {
-    few = omega arith;
-    bits_are = words_more (eight_bits entries) bits₀ bits c b st.bits_are (omega arith) is;
-    bases_are = words_more (base entries) bases₀ bases c n st.bases_are (omega arith) st.ones_are;
+  pub coded_more : {codes : List Code} {n c : ℕ} → CodedTo entries codes₀ codes n c → c < codewords
+      → (b o : ℕ) → b ≡ eight_bits entries c → o ≡ ones b → b < 256 → CodedTo entries codes₀ (set codes c (code b n)) (n + o) (c + 1)
+  coded_more {codes} {n} {c} st h b o is counted small = record {
+    codes_are = words_more (code_of entries) codes₀ codes c (code b n) st.codes_are (omega arith) (ap₂ code is st.ones_are);
     ones_are = base_more entries c n b o st.ones_are is counted;
     ones_few = omega (arith, st.ones_few, counted, ones-le 8 b small);
   }
 
-  pub coded_all : {bits bases : List ℕ} {n c : ℕ} → CodedTo entries bits₀ bases₀ bits bases n c → codewords ≤ c → codes bits bases ≡ codes_of entries
+  pub coded_all : {codes : List Code} {n c : ℕ} → CodedTo entries codes₀ codes n c → c ≡ codewords → codes ≡ codes_of entries
   unfolding codes_of
-  coded_all {bits} {bases} {n} {c} st h =
-      let e : c ≡ codewords = omega (arith, st.few) in
-      ap₂ codes
-      (st.bits_are ∙ ap (λ (k : ℕ). over (list_of (eight_bits entries) k 0) bits₀) e ∙ words_all (eight_bits entries) bits₀ codewords sized)
-      (st.bases_are ∙ ap (λ (k : ℕ). over (list_of (base entries) k 0) bases₀) e ∙ words_all (base entries) bases₀ codewords sized')
+  coded_all st e =
+      st.codes_are ∙ ap (λ (k : ℕ). over (list_of (code_of entries) k 0) codes₀) e ∙ words_all (code_of entries) codes₀ codewords sized

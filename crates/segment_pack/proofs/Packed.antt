@@ -10,21 +10,20 @@ use lib.Count.{ones}
 use lib.ListN.{length, get_or, set, replicate, length-append, length-replicate, drop_of_length-le, get_or-append}
 use lib.Seq.{get_or-append-add, set-append_seam, append_snoc, set-get_or}
 use borrow.Author.Tests.{eq-eqb, ne_eqb, le-leb, lt-leb}
+use Rattle.segment_pack.proofs.Codewords.{words_back}
 use Rattle.promise.specs.Over.{over}
 use Rattle.lists.specs.Below.{number_below}
 use Rattle.lists.specs.Numbered.{list_of, in_order}
 use Rattle.lists.proofs.Tests.{way, test_no}
 use Rattle.lists.proofs.Below.{number_pass, number_skip, number_mono, number_lt, gathered_pass, gathered_skip}
 use Rattle.lists.proofs.Numbered.{length_list_of, get_d_list_of}
-use Rattle.bits.specs.Bitmap.{ones_before}
 use Rattle.entries.specs.Entries.{filled}
 use Rattle.entries.proofs.Filled.{filled_over}
 use Rattle.segment_rules.specs.Packed.{block_size, codewords, most_kept, packed_size, is_one, ones_below, eight_bits, codeword, kept, packed_block}
 use Rattle.segment_rules.proofs.Ranks.{ones_list_of, ones_before_list_of, value_list_of_lt, length_kept, kept_at, entry_same, ones_some}
-use Rattle.segment_pack.proofs.Codewords.{words_all}
-use Rattle.segment_pack.specs.declared.Codes.{Codes}
-use Rattle.segment_pack.specs.Pack.{codes_of, rank_of, pack_into, copy_into}
-use Rattle.segment_pack.specs.Needs.{packed_to, Coded}
+use Rattle.segment_pack.specs.declared.Code.{Code}
+use Rattle.segment_pack.specs.Pack.{code_of, codes_of, rank_of, pack_into, copy_into}
+use Rattle.segment_pack.specs.Needs.{packed_to, Coded, CodedAt}
 
 -- an element after two lists takes the place of the one there
 set_after : (a b zs : List ℕ) (z v : ℕ) → set (a ++ (b ++ (z ∷ zs))) (length a + length b) v ≡ a ++ ((b ++ (v ∷ [])) ++ zs)
@@ -39,37 +38,30 @@ module _ (entries : List ℕ) where
   not_first zero t = absurd (true≢false t)
   not_first (suc i) t = omega arith
 
+  -- the rank by a codeword of the segment
+  pub rank_at : (c : Code) (i : ℕ) → i < block_size → c ≡ code_of entries (i / 8) → rank_of c i ≡ ones_below entries (i + 1)
+  rank_at c i h is =
+      let k : ℕ = i / 8 in
+      let e : k * 8 + (i % 8 + 1) ≡ i + 1 = omega arith in
+      ap (λ (x : Code). rank_of x i) is ∙ ones_before_list_of (is_one entries) 8 (k * 8) (i % 8 + 1) (omega arith) ∙ ap (ones_below entries) e
+
   -- what the codewords by value say
-  module _ (c : Codes) (is : c ≡ codes_of entries) where
-    pub bits_at : (k : ℕ) → k < codewords → get_or c.bits k 0 ≡ eight_bits entries k
+  module _ (cs : List Code) (is : cs ≡ codes_of entries) (d : Code) (k : ℕ) (h : k < codewords) where
+    pub code_at : get_or cs k d ≡ code_of entries k
     unfolding codes_of
-    bits_at k h =
+    code_at =
         let z : 0 + k ≡ k = omega arith in
-        ap (λ (x : Codes). get_or x.bits k 0) is ∙ get_d_list_of (eight_bits entries) codewords 0 k 0 h ∙ ap (eight_bits entries) z
-
-    pub base_at : (k : ℕ) → k < codewords → get_or c.bases k 0 ≡ ones_below entries (k * 8)
-    unfolding codes_of
-    base_at k h =
-        let z : 0 + k ≡ k = omega arith in
-        ap (λ (x : Codes). get_or x.bases k 0) is ∙ get_d_list_of (λ j. ones_below entries (j * 8)) codewords 0 k 0 h
-        ∙ ap (λ (j : ℕ). ones_below entries (j * 8)) z
-
-    pub rank_at : (i : ℕ) → i < block_size → rank_of c i ≡ ones_below entries (i + 1)
-    rank_at i h =
-        let k : ℕ = i / 8 in
-        let e : k * 8 + (i % 8 + 1) ≡ i + 1 = omega arith in
-        ap₂ (λ (x y : ℕ). x + ones_before 8 y (i % 8 + 1)) (base_at k (omega arith)) (bits_at k (omega arith))
-        ∙ ones_before_list_of (is_one entries) 8 (k * 8) (i % 8 + 1) (omega arith) ∙ ap (ones_below entries) e
+        ap (λ (xs : List Code). get_or xs k d) is ∙ get_d_list_of (code_of entries) codewords 0 k d h ∙ ap (code_of entries) z
 
     -- small enough for a codeword of sixteen bits
-    pub bits_lt : (k : ℕ) → k < codewords → get_or c.bits k 0 < 256
-    bits_lt k h = omega (arith, bits_at k h, value_list_of_lt (is_one entries) 8 (k * 8))
+    pub bits_lt : (get_or cs k d).bits < 256
+    bits_lt = omega (arith, ap (λ (x : Code). x.bits) code_at, value_list_of_lt (is_one entries) 8 (k * 8))
 
-    pub base_le : ones_below entries block_size ≤ most_kept → (k : ℕ) → k < codewords → get_or c.bases k 0 ≤ most_kept
-    base_le few k h = omega (arith, few, base_at k h, number_mono (is_one entries) (k * 8) block_size (omega arith))
+    pub base_le : ones_below entries block_size ≤ most_kept → (get_or cs k d).base ≤ most_kept
+    base_le few = omega (arith, few, ap (λ (x : Code). x.base) code_at, number_mono (is_one entries) (k * 8) block_size (omega arith))
 
-    pub code_at : (k : ℕ) → k < codewords → get_or c.bits k 0 * 256 + get_or c.bases k 0 ≡ codeword entries k
-    code_at k h = ap₂ (λ (x y : ℕ). x * 256 + y) (bits_at k h) (base_at k h)
+    pub word_at : (get_or cs k d).bits * 256 + (get_or cs k d).base ≡ codeword entries k
+    word_at = ap (λ (x : Code). x.bits * 256 + x.base) code_at
 
   abbrev front : List ℕ
   front = list_of (codeword entries) codewords 0
@@ -166,13 +158,15 @@ module _ (entries : List ℕ) where
   packed_all = refl
 
 -- the eight entries of a codeword, one after the other
-module _ (entries : List ℕ) (codes : Codes) (ok : Coded entries codes) (c : ℕ) (l : c < codewords) where
+module _ (entries : List ℕ) (code : Code) (c : ℕ) (ok : CodedAt entries code c) (l : c < codewords) where
   pub eight_none : (block : List ℕ) → block ≡ packed_to entries (c * 8) → block ≡ packed_to entries (c * 8 + 0)
   eight_none block e = let z : c * 8 + 0 ≡ c * 8 = omega arith in rw z e
 
-  module _ (j : ℕ) (h : j < 8) (block : List ℕ) (is : block ≡ packed_to entries (c * 8 + j)) (rank : ℕ) (ranked : rank ≡ rank_of codes (c * 8 + j)) where
+  module _ (j : ℕ) (h : j < 8) (block : List ℕ) (is : block ≡ packed_to entries (c * 8 + j)) (rank : ℕ) (ranked : rank ≡ rank_of code (c * 8 + j)) where
     rank_is : rank ≡ ones_below entries (c * 8 + j + 1)
-    rank_is = ranked ∙ rank_at entries codes ok.is (c * 8 + j) (omega arith)
+    rank_is =
+        let own : c ≡ (c * 8 + j) / 8 = omega arith in
+        ranked ∙ rank_at entries code (c * 8 + j) (omega arith) (ok.is ∙ ap (code_of entries) own)
 
     pub rank_some : 0 < rank
     rank_some = omega (arith, rank_is, ones_some entries (c * 8 + j))
@@ -191,17 +185,18 @@ module _ (entries : List ℕ) (codes : Codes) (ok : Coded entries codes) (c : �
 pub all_more : (entries block : List ℕ) (c : ℕ) → block ≡ packed_to entries (c * 8 + 8) → block ≡ packed_to entries ((c + 1) * 8)
 all_more entries block c e = let z : (c + 1) * 8 ≡ c * 8 + 8 = omega arith in rw z e
 
-pub skip_more : (entries : List ℕ) (codes : Codes) → Coded entries codes → (c : ℕ) → c < codewords → (block : List ℕ) → block ≡ packed_to entries (c * 8)
-    → get_or codes.bits c 0 ≡ 0 → block ≡ packed_to entries ((c + 1) * 8)
-skip_more entries codes ok c h block e z =
-    all_more entries block c (e ∙ packed_skip entries c (sym (bits_at entries codes ok.is c h) ∙ z))
+pub skip_more : (entries : List ℕ) (code : Code) (c : ℕ) → code ≡ code_of entries c → (block : List ℕ) → block ≡ packed_to entries (c * 8)
+    → code.bits ≡ 0 → block ≡ packed_to entries ((c + 1) * 8)
+skip_more entries code c is block e z =
+    all_more entries block c (e ∙ packed_skip entries c (sym (ap (λ (x : Code). x.bits) is) ∙ z))
 
 -- the rank of the last entry is the number of all ones
-pub rank_all : (entries : List ℕ) (codes : Codes) (rank : ℕ) → codes ≡ codes_of entries → rank ≡ rank_of codes 255 → rank ≡ ones_below entries block_size
-rank_all entries codes rank is ranked = ranked ∙ rank_at entries codes is 255 (omega arith)
+module _ (entries : List ℕ) (codes : List Code) (d : Code) (rank : ℕ) (is : codes ≡ codes_of entries) (ranked : rank ≡ rank_of (get_or codes 31 d) 255) where
+  pub rank_all : rank ≡ ones_below entries block_size
+  rank_all = ranked ∙ rank_at entries (get_or codes 31 d) 255 (omega arith) (code_at entries codes is d 31 (omega arith))
 
-pub coded : (entries : List ℕ) (codes : Codes) (rank : ℕ) → codes ≡ codes_of entries → rank ≡ rank_of codes 255 → rank ≤ most_kept → Coded entries codes
-coded entries codes rank is ranked h = record { is = is; few = omega (arith, rank_all entries codes rank is ranked) }
+  pub coded : rank ≤ most_kept → Coded entries codes
+  coded h = record { is = is; few = omega (arith, rank_all) }
 
 -- what packing leaves
 module _ (entries block : List ℕ) where
@@ -218,15 +213,12 @@ module _ (entries block : List ℕ) where
     unfolding pack_into
     pack_done h = packed_all entries ∙ rw (eq-eqb (length block) packed_size sized, le-leb (ones_below entries block_size) most_kept (omega (arith, is)))
 
--- a plain block, entry by entry
+-- a plain block, which is the entries
 module _ (entries block : List ℕ) where
   pub copy_sized : (length block ≡ block_size → ⊥) → block ≡ copy_into entries block
   unfolding copy_into
   copy_sized n = rw (ne_eqb (length block) block_size n)
 
-  pub copy_all : (i : ℕ) (left : List ℕ) → length block ≡ block_size → i ≡ block_size → left ≡ over (list_of (λ j. get_or entries j 0) i 0) block
-      → left ≡ copy_into entries block
+  pub copy_all : length block ≡ block_size → length entries ≡ block_size → entries ≡ copy_into entries block
   unfolding copy_into
-  copy_all i left sized h e =
-      e ∙ ap (λ (k : ℕ). over (list_of (λ j. get_or entries j 0) k 0) block) h
-      ∙ words_all (λ j. get_or entries j 0) block block_size sized ∙ rw (eq-eqb (length block) block_size sized)
+  copy_all sized whole = sym (words_back entries block_size whole) ∙ rw (eq-eqb (length block) block_size sized)

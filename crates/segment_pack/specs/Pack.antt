@@ -1,21 +1,25 @@
 -- Defines a segment's codewords by value, the rank that they give an entry, and what packing leaves in a block: RULES, "Segment tables".
 -- What the packed block is, segment_rules defines. Assumes nothing.
-use Rattle.std.specs.Prelude.{cond, ◌&&◌, List, ℕ, ◌+◌, ◌*◌, ◌/◌, ◌%◌, eqb, length, get_or}
+use Rattle.std.specs.Prelude.{cond, ◌&&◌, List, ℕ, ◌+◌, ◌*◌, ◌%◌, eqb, length, get_or}
 use Rattle.lists.specs.Numbered.{list_of}
 use Rattle.bits.specs.Bitmap.{ones_before}
 use Rattle.segment_rules.specs.Packed.{block_size, codewords, packed_size, ones_below, eight_bits, is_packed, packed_block}
-use Rattle.segment_pack.specs.declared.Codes.{Codes}
+use Rattle.segment_pack.specs.declared.Code.{Code}
 
-abbrev pub codes : List ℕ → List ℕ → Codes
-codes bits bases = record { bits = bits; bases = bases }
+abbrev pub code : ℕ → ℕ → Code
+code bits base = record { bits = bits; base = base }
+
+-- the codeword of entries c * 8 to c * 8 + 7, with its base
+abbrev pub code_of : List ℕ → ℕ → Code
+code_of entries c = code (eight_bits entries c) (ones_below entries (c * 8))
 
 -- "thirty-two codewords, each with its base", of a segment's entries
-unfoldable pub codes_of : List ℕ → Codes
-codes_of entries = codes (list_of (eight_bits entries) codewords 0) (list_of (λ c. ones_below entries (c * 8)) codewords 0)
+unfoldable pub codes_of : List ℕ → List Code
+codes_of entries = list_of (code_of entries) codewords 0
 
--- "base plus the ones through the entry's bit": of entry i
-abbrev pub rank_of : Codes → ℕ → ℕ
-rank_of c i = get_or c.bases (i / 8) 0 + ones_before 8 (get_or c.bits (i / 8) 0) (i % 8 + 1)
+-- "base plus the ones through the entry's bit": of entry i, by its codeword
+abbrev pub rank_of : Code → ℕ → ℕ
+rank_of c i = c.base + ones_before 8 c.bits (i % 8 + 1)
 
 -- a block of 96 words gets the packed block of the entries, if they have one; any other memory is left as it is
 unfoldable pub pack_into : List ℕ → List ℕ → List ℕ

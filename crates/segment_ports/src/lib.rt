@@ -11,10 +11,7 @@ use entries::fill;
 use runs_write::RUN_SIZE;
 
 // How many addresses there are.
-const ADDRESSES: u64 = 4294967296;
-
-// The last of all addresses.
-const LAST_ADDRESS: u32 = 4294967295;
+const ADDRESSES: u64 = 1 << 32;
 
 // The last address of a run.
 fn run_end(runs: &[u32], run: usize) -> u32
@@ -23,7 +20,7 @@ fn run_end(runs: &[u32], run: usize) -> u32
     if run < runs.len() / RUN_SIZE {
         runs[run * RUN_SIZE + 1]
     } else {
-        LAST_ADDRESS
+        u32::MAX
     }
 }
 

@@ -5,5 +5,6 @@ pub mod Stores
 pub mod Walk
 pub mod Parts
 pub mod AfterBuild
+pub mod Told
 pub mod Ranks
 pub mod Unique

@@ -1,14 +1,16 @@
 -- Defines what a build of segment tables answers and leaves: RULES, "Segment tables", "Order of the checks" and "Refusals". Assumes nothing.
-use Rattle.std.specs.Prelude.{◌≡◌, Bool, cond, ◌&&◌, List, ℕ, ◌^◌, ◌<◌, eqb, leb, length}
+use Rattle.std.specs.Prelude.{◌≡◌, Bool, cond, ◌&&◌, List, ℕ, ◌^◌, ◌<◌, eqb, leb, length, Result, Ok, Err}
 use Rattle.promise.specs.Over.{over}
 use Rattle.lists.specs.Below.{number_below}
-use Rattle.refusals.specs.Refusals.{no_room, found}
+use Rattle.refusals.specs.Refusals.{no_room, found, number_of}
+use Rattle.refusals.specs.declared.Refusal.{Refusal}
 use Rattle.refusals.specs.declared.found.Found.{Found}
 use Rattle.routes.specs.Routes.{route_at, route_count, Words}
 use Rattle.routes.specs.Check.{list_check}
 use Rattle.routes.specs.Scan.{scan_of}
 use Rattle.routes.specs.declared.Route.{Route}
 use Rattle.segment_rules.specs.declared.Built.{Built}
+use Rattle.segment_rules.specs.declared.Written.{Written}
 use Rattle.segment_rules.specs.Tables.{has_last, has_packed, has_plain, first_table, packed_store, plain_store, last_store}
 use Rattle.segment_rules.specs.Lookup.{lookup_in}
 use Rattle.segment_rules.specs.Theorems.{reads_of}
@@ -38,6 +40,11 @@ refused_build number place = record { number = number; place = place; packed = 0
 -- "0 | done | 0", with the packed segments, the plain ones and the last blocks
 abbrev pub done_build : ℕ → ℕ → ℕ → Built
 done_build packed plain last = record { number = 0; place = 0; packed = packed; plain = plain; last = last }
+
+-- what C is told of a build
+abbrev pub built_of : Result Written Refusal → Built
+built_of (Ok w) = done_build w.packed w.plain w.last
+built_of (Err r) = refused_build (number_of r.fault) r.place
 
 module _ (R : ℕ → Route) (n : ℕ) where
   -- how many blocks there are of each kind

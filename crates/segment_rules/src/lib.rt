@@ -4,6 +4,9 @@
 
 ghost use Rattle.std.specs.Prelude.{◌≡◌, ◌+◌, ◌%◌, ◌≤◌};
 ghost use Rattle.bits.specs.Bitmap.{ones_before};
+ghost use Rattle.segment_rules.specs.Build.{built_of};
+
+use refusals::Refusal;
 
 // Where the entries of a segment stand: in the plain store or in the packed one, from which word on, and how many.
 #[derive(Clone, Copy)]
@@ -13,8 +16,15 @@ pub struct Part {
     pub count: usize,
 }
 
-// What a build answers: the refusal's number and place, both 0 where it is done, and how many packed segments, plain segments and last
-// blocks there are.
+// What a build has written: how many packed segments, plain segments and last blocks there are.
+#[derive(Clone, Copy, Debug, PartialEq, Eq)]
+pub struct Written {
+    pub packed: u32,
+    pub plain: u32,
+    pub last: u32,
+}
+
+// What C is told of a build: the refusal's number and place, both 0 where it is done, and the three counts.
 #[derive(Clone, Copy)]
 pub struct Built {
     pub number: u32,
@@ -22,6 +32,29 @@ pub struct Built {
     pub packed: u32,
     pub plain: u32,
     pub last: u32,
+}
+
+impl From<Result<Written, Refusal>> for Built {
+    ghost from_gives = { λ x built. built ≡ built_of x };
+
+    fn from(x: Result<Written, Refusal>) -> Built {
+        match x {
+            Ok(w) => Built {
+                number: 0,
+                place: 0,
+                packed: w.packed,
+                plain: w.plain,
+                last: w.last,
+            },
+            Err(r) => Built {
+                number: u32::from(r.fault),
+                place: r.place,
+                packed: 0,
+                plain: 0,
+                last: 0,
+            },
+        }
+    }
 }
 
 // The entries of a segment, of a plain block and of a last block.

@@ -37,9 +37,8 @@ module _ {S : Type 0} (L : Layout S) (w : ℕ) (ws : S) (n r : ℕ) (q : Route) 
   sink_plan (suc k) pos e = rw (pred_of k, e)
 
 -- the route q is at row `row`, with `left` bits below it; what is left to do is all that there was
-pub record Sinking {S : Type 0} (L : Layout S) (w : ℕ) (ws₀ ws : S) (n : ℕ) (route q : Route) (left row : ℕ) : Type 0 where
-  pub bits : left ≤ w
-  pub rest : sink L w left ws n row q ≡ sink L w w ws₀ n 0 route
+abbrev pub Sinking : {S : Type 0} → Layout S → ℕ → S → S → ℕ → Route → Route → ℕ → ℕ → Type 0
+Sinking L w ws₀ ws n route q left row = sink L w left ws n row q ≡ sink L w w ws₀ n 0 route
 
 module _ {S : Type 0} (L : Layout S) (w : ℕ) (ws₀ ws : S) (n : ℕ) (route q : Route) (left row : ℕ)
     (at : Sinking L w ws₀ ws n route q left row) (x : Row) (is : x ≡ L.get ws row) (a : Bool) (same : a ≡ is_same q x) where
@@ -49,17 +48,17 @@ module _ {S : Type 0} (L : Layout S) (w : ℕ) (ws₀ ws : S) (n : ℕ) (route q
   -- the prefix is here
   pub sinking_same : a ≡ true → (ws' : S) → ws' ≡ L.put ws row (with_route x q) → ws' ≡ sink L w w ws₀ n 0 route
   sinking_same e ws' f =
-      f ∙ ap (λ (y : Row). L.put ws row (with_route y q)) is ∙ sym (sink_same L w ws n row q left (a_is true e)) ∙ at.rest
+      f ∙ ap (λ (y : Row). L.put ws row (with_route y q)) is ∙ sym (sink_same L w ws n row q left (a_is true e)) ∙ at
 
   pub sinking_last : left ≤ 0 → a ≡ false → ws ≡ sink L w w ws₀ n 0 route
-  sinking_last h e = sym (sink_last L w ws n row q left h (a_is false e)) ∙ at.rest
+  sinking_last h e = sym (sink_last L w ws n row q left h (a_is false e)) ∙ at
 
   module _ (pos : 0 < left) (other : a ≡ false) (p : Plan) (planned : p ≡ plan_of w x q (left - 1)) where
     p_is : p ≡ plan_of w (L.get ws row) q (left - 1)
     p_is = planned ∙ ap (λ (y : Row). plan_of w y q (left - 1)) is
 
     on : after L w ws n row q (left - 1) p ≡ sink L w w ws₀ n 0 route
-    on = ap (after L w ws n row q (left - 1)) p_is ∙ sym (sink_plan L w ws n row q left pos (a_is false other)) ∙ at.rest
+    on = ap (after L w ws n row q (left - 1)) p_is ∙ sym (sink_plan L w ws n row q left pos (a_is false other)) ∙ at
 
     -- no child: the place is new, and gets row n
     pub sinking_leaf : p.child ≡ 0 → (ws' : S) → ws' ≡ leaf_into L ws n row p → ws' ≡ sink L w w ws₀ n 0 route
@@ -68,7 +67,4 @@ module _ {S : Type 0} (L : Layout S) (w : ℕ) (ws₀ ws : S) (n : ℕ) (route q
     -- on to the child
     pub sinking_more : (p.child ≡ 0 → ⊥) → (ws' : S) → ws' ≡ L.put ws row p.upper
         → Sinking L w ws₀ ws' n route p.lower (left - 1) p.child
-    sinking_more ne ws' f = subst (λ (y : S). Sinking L w ws₀ y n route p.lower (left - 1) p.child) (sym f) (record {
-      bits = omega (arith, at.bits);
-      rest = sym (rw (ne_eqb p.child 0 ne)) ∙ on;
-    })
+    sinking_more ne ws' f = subst (λ (y : S). Sinking L w ws₀ y n route p.lower (left - 1) p.child) (sym f) (sym (rw (ne_eqb p.child 0 ne)) ∙ on)

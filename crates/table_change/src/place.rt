@@ -16,8 +16,7 @@ pub(crate) fn with_route(x: Row, q: Route) -> Row
         value: q.value,
         len: q.len,
         port: q.port,
-        left: x.left,
-        right: x.right,
+        ..x
     }
 }
 
@@ -26,21 +25,9 @@ pub(crate) fn with_child(x: Row, right: bool, c: u32) -> Row
     ensures { result ≡ with_child x right c }
 {
     if right {
-        Row {
-            value: x.value,
-            len: x.len,
-            port: x.port,
-            left: x.left,
-            right: c,
-        }
+        Row { right: c, ..x }
     } else {
-        Row {
-            value: x.value,
-            len: x.len,
-            port: x.port,
-            left: c,
-            right: x.right,
-        }
+        Row { left: c, ..x }
     }
 }
 

@@ -125,10 +125,8 @@ fn cut_from(rows: &mut [u32], left: u32, row: u32, q: Route) -> u32
 fn relink_from_root(rows: &mut [u32], value: u32, last: u32, freed: u32)
     ensures { rows.new ≡ relink five_words 32 32 rows.old 0 value last freed }
 {
-    let mut left: u32 = 32;
     let mut row: u32 = 0;
-    while 0 < left {
-        left -= 1;
+    for left in (0..32).rev() {
         let x = row_at(rows, row);
         let right = bit_before(value, left);
         let child = child_of(x, right);

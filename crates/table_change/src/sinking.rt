@@ -49,24 +49,20 @@ fn plan_for(x: Row, q: Route, left: u32) -> Plan
 fn add_leaf(rows: &mut [u32], n: u32, row: u32, plan: Plan)
     ensures { rows.new ≡ leaf_into five_words rows.old n row plan }
 {
-    let upper = plan.upper;
-    let lower = plan.lower;
-    store_row(rows, row, with_child(upper, plan.right, n));
-    store_row(rows, n, leaf_row(lower));
+    store_row(rows, row, with_child(plan.upper, plan.right, n));
+    store_row(rows, n, leaf_row(plan.lower));
 }
 
 // Whether the rows hold the route's prefix. A place that it would take itself has it nowhere below.
 pub(crate) fn held_from_root(rows: &[u32], q: Route) -> bool
     ensures { result ≡ held_at 32 (five_words.get rows.now) 32 0 q }
 {
-    let mut left: u32 = 32;
     let mut row: u32 = 0;
-    while 0 < left {
+    for left in (0..32).rev() {
         let x = row_at(rows, row);
         if is_same(q, x) {
             return true;
         }
-        left -= 1;
         if outranks_row(31 - left, q, x) {
             return false;
         }
@@ -83,15 +79,13 @@ pub(crate) fn sink_from_root(rows: &mut [u32], n: u32, route: Route)
     ensures { rows.new ≡ sink five_words 32 32 rows.old n 0 route }
 {
     let mut q = route;
-    let mut left: u32 = 32;
     let mut row: u32 = 0;
-    while 0 < left {
+    for left in (0..32).rev() {
         let x = row_at(rows, row);
         if is_same(q, x) {
             store_row(rows, row, with_route(x, q));
             return;
         }
-        left -= 1;
         let plan = plan_for(x, q, left);
         if plan.child == 0 {
             add_leaf(rows, n, row, plan);

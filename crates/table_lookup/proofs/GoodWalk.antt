@@ -101,15 +101,23 @@ module _ (w : ℕ) (M : Mem) (n : ℕ) (p : Prefix) (r : ℕ) (ok : Valid w p.va
       to_left_wrong t =
           sym (both_sides ∙ rw (sym (ap (λ (o : Seen). o.wrong) left_is) ∙ t))
 
-      pub to_join : (i : Prefix) → i ≡ right_half w p → (o : Seen) → o ≡ seen_below w M n (w - i.len) i.value x.right
-          → (all : Seen) → all ≡ seen_join x p.len s o → all ≡ seen_at w M n (w - p.len) p.value r
-      to_join i ei o eo all e =
-          e
-          ∙ ap (λ (y : Row). seen_join y p.len s o) is
-          ∙ ap₂ (seen_join (M r) p.len) left_is
-          (eo ∙ below_half w p more ok M n x.right true i ei
-          ∙ ap (λ (y : Row). seen_below w M n (w - (p.len + 1)) (path_on p.value (w - (p.len + 1)) true) y.right) is)
-          ∙ sym both_sides
+      -- i is the half on the right, o what was seen there
+      module _ (i : Prefix) (ei : i ≡ right_half w p) (o : Seen) (eo : o ≡ seen_below w M n (w - i.len) i.value x.right) where
+        right_is : o ≡ on true
+        right_is =
+            eo ∙ below_half w p more ok M n x.right true i ei
+            ∙ ap (λ (y : Row). seen_below w M n (w - (p.len + 1)) (path_on p.value (w - (p.len + 1)) true) y.right) is
+
+        pub to_right_wrong : s.wrong ≡ false → o.wrong ≡ true → wrong_rows ≡ seen_at w M n (w - p.len) p.value r
+        to_right_wrong f t =
+            sym (both_sides ∙ rw (sym (ap (λ (o : Seen). o.wrong) left_is) ∙ f, sym (ap (λ (o : Seen). o.wrong) right_is) ∙ t))
+
+        pub to_join : (all : Seen) → all ≡ seen_join x p.len s o → all ≡ seen_at w M n (w - p.len) p.value r
+        to_join all e =
+            e
+            ∙ ap (λ (y : Row). seen_join y p.len s o) is
+            ∙ ap₂ (seen_join (M r) p.len) left_is right_is
+            ∙ sym both_sides
 
 -- a walk with k bits left sees fewer than 2 ^ (k + 1) rows
 

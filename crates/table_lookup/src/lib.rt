@@ -2,6 +2,7 @@
 #![tactic(auto)]
 
 ghost use Rattle.std.specs.Prelude.{◌≡◌, cond};
+ghost use Rattle.refusals.specs.Refusals.{checked, found_of};
 ghost use Rattle.table_rules.specs.Rows.{child};
 ghost use Rattle.table_rows.specs.Words.{capacity, row_at};
 ghost use Rattle.table_rules.specs.Check.{is_good};
@@ -12,8 +13,8 @@ ghost use Rattle.table_lookup.specs.Good.{table_check};
 
 use good::seen_at;
 use prefix::{Prefix, bit_before};
-use refusals::found::Found;
-use refusals::{Answer, NOT_IN_ORDER};
+use refusals::found::{Lost, Reached};
+use refusals::{Fault, Refusal};
 use table_rows::{capacity_of, prefix_of, whole_row};
 use table_rules::Row;
 
@@ -65,39 +66,48 @@ fn child_on(x: Row, address: u32, k: u32) -> u32
 
 // The port of the longest route that matches the address, 0 if none does, and the rows read. On any rows; refuses 11 where n
 // exceeds the capacity, and where a row read is wrong, with the rows read so far.
-pub fn lookup(rows: &[u32], n: u32, address: u32) -> Found
-    ensures { result ≡ lookup_in 32 (capacity rows.now) (row_at rows.now) n address }
+pub fn lookup(rows: &[u32], n: u32, address: u32) -> Result<Reached, Lost>
+    ensures { found_of result ≡ lookup_in 32 (capacity rows.now) (row_at rows.now) n address }
 {
     if capacity_of(rows) < n {
-        return Found::lost(NOT_IN_ORDER, 0);
+        return Err(Lost {
+            fault: Fault::NotInOrder,
+            reads: 0,
+        });
     }
     if n == 0 {
-        return Found::found(0, 0);
+        return Ok(Reached { port: 0, reads: 0 });
     }
-    let mut depth: u32 = 0;
     let mut row: u32 = 0;
     let mut best: u32 = 0;
-    loop {
+    for depth in 0..33 {
         let x = whole_row(rows, row);
         let reads = depth + 1;
         if is_wrong(x, n, address, depth) {
-            return Found::lost(NOT_IN_ORDER, reads);
+            return Err(Lost {
+                fault: Fault::NotInOrder,
+                reads,
+            });
         }
         let matched = row_matches(x, address);
         if matched & (depth < x.len) {
-            return Found::found(x.port, reads);
+            return Ok(Reached {
+                port: x.port,
+                reads,
+            });
         }
         // An ordinary match does not end the search: a longer route may lie below it.
         best = better(x, matched, best);
-        if depth == 32 {
-            return Found::found(best, reads);
-        }
-        row = child_on(x, address, 32 - reads);
+        // At depth 32 no bit is left and no row is read after this one, whichever child that names.
+        row = child_on(x, address, 31u32.wrapping_sub(depth));
         if row == 0 {
-            return Found::found(best, reads);
+            return Ok(Reached { port: best, reads });
         }
-        depth = reads;
     }
+    Ok(Reached {
+        port: best,
+        reads: 33,
+    })
 }
 
 // Whether a table of n rows is in good order.
@@ -110,17 +120,19 @@ pub fn is_good(rows: &[u32], n: u32) -> bool
     if n == 0 {
         return true;
     }
-    let seen = seen_at(rows, n, Prefix::WHOLE, 0);
-    !seen.wrong & (seen.rows == n as u64)
+    match seen_at(rows, n, Prefix::WHOLE, 0) {
+        Some(seen) => seen.rows == n as u64,
+        None => false,
+    }
 }
 
 // Checks that a table of n rows is in good order. Refuses 11, at place 0, exactly where it is not.
-pub fn check(rows: &[u32], n: u32) -> Answer
-    ensures { result ≡ table_check 32 (capacity rows.now) (row_at rows.now) n }
+pub fn check(rows: &[u32], n: u32) -> Result<(), Refusal>
+    ensures { checked result ≡ table_check 32 (capacity rows.now) (row_at rows.now) n }
 {
     if is_good(rows, n) {
-        Answer::accepted(0)
+        Ok(())
     } else {
-        Answer::refused(NOT_IN_ORDER, 0)
+        Err(Fault::NotInOrder.at(0))
     }
 }

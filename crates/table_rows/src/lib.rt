@@ -13,14 +13,6 @@ use table_rules::Row;
 // The words of a row.
 pub const ROW_SIZE: usize = 5;
 
-const NO_ROW: Row = Row {
-    value: 0,
-    len: 0,
-    port: 0,
-    left: 0,
-    right: 0,
-};
-
 // The smaller of 4,096 and the number of whole rows lent.
 pub fn capacity_of(rows: &[u32]) -> u32
     ensures { result ≡ capacity rows.now }
@@ -55,7 +47,7 @@ pub fn row_at(rows: &[u32], r: u32) -> Row
     if (r as usize) < rows.len() / ROW_SIZE {
         whole_row(rows, r)
     } else {
-        NO_ROW
+        Row::default()
     }
 }
 

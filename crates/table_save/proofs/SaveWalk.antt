@@ -1,7 +1,7 @@
 -- The walk that writes a table's routes, as the code takes it: one row, its two sides, and its own route put among them.
 -- Assumes nothing.
 use mathlib.Core.Path.{◌≡◌, refl, sym, ap, ap₂, ◌∙◌, subst}
-use mathlib.Core.Bool.{Bool, true, false, cond}
+use mathlib.Core.Bool.{Bool, true, cond}
 use mathlib.Core.List.{List, [], ◌∷◌, ◌++◌, append_assoc}
 use Prim.Native.Nat.{ℕ, zero, suc, ◌+◌, ◌-◌, ◌*◌, ◌<◌, ◌≤◌}
 use native.Mathlib.Omega.{arith}
@@ -10,11 +10,12 @@ use lib.ListN.{length, drop, length-append}
 use lib.Seq.{sets, sets-eq, set-get_or, length-sets}
 use borrow.Author.Tests.{eq-eqb, ne_eqb, le-leb, lt-leb}
 use Rattle.promise.specs.Over.{over, outcome}
-use Rattle.refusals.specs.Refusals.{no_room, not_in_order, refused, accepted}
+use Rattle.refusals.specs.Refusals.{no_room, refused, accepted}
 use Rattle.routes.specs.Bounds.{most_routes}
 use Rattle.routes.specs.declared.Route.{Route}
 use Rattle.table_rules.specs.Rows.{Mem, child, route_of}
 use Rattle.table_rules.specs.Check.{is_good}
+use Rattle.table_lookup.proofs.Checked.{Wrong}
 use Rattle.table_rules.specs.Save.{insert_route, saved_at, save_into}
 use Rattle.routes.specs.Routes.{route_at, words_of, store_route}
 use Rattle.table_rules.specs.declared.Row.{Row}
@@ -164,23 +165,25 @@ wrote_below M k c at next lent left ne h = subst (λ (rs : List Route). WroteRou
 -- the whole table
 
 module _ (w capacity : ℕ) (M : Mem) (n : ℕ) (lent : List ℕ) where
-  pub save_refused : (b : Bool) → b ≡ is_good w capacity M n → b ≡ false → outcome (refused not_in_order 0) lent ≡ save_into w capacity M n lent
+  pub save_refused : (number place : ℕ) → Wrong w capacity M n number place
+      → outcome (refused number place) lent ≡ save_into w capacity M n lent
   unfolding save_into
-  save_refused b is f = rw (sym is ∙ f)
+  save_refused number place h =
+      rw h.wrong (ap₂ (λ (number place : ℕ). outcome (refused number place) lent) h.eleven h.at_zero)
 
-  module _ (b : Bool) (is : b ≡ is_good w capacity M n) (good : b ≡ true) where
+  module _ (good : is_good w capacity M n ≡ true) where
     pub save_short : length lent < n * 3 → outcome (refused no_room 0) lent ≡ save_into w capacity M n lent
     unfolding save_into
-    save_short h = rw (sym is ∙ good, lt-leb (n * 3) (length lent) h)
+    save_short h = rw (good, lt-leb (n * 3) (length lent) h)
 
     pub save_none : n ≡ 0 → outcome (accepted 0) lent ≡ save_into w capacity M n lent
     unfolding save_into
-    save_none z = rw (sym is ∙ good, le-leb (n * 3) (length lent) (omega arith), eq-eqb n 0 z) (ap (λ (k : ℕ). outcome (accepted k) lent) (sym z))
+    save_none z = rw (good, le-leb (n * 3) (length lent) (omega arith), eq-eqb n 0 z) (ap (λ (k : ℕ). outcome (accepted k) lent) (sym z))
 
     -- the rows may be written, n of them
     pub save_ready : (n ≡ 0 → ⊥) → (room : ℕ) → capacity ≤ room → capacity ≤ most_routes → Savable M room w 0 × (length (saved_at M w 0) ≡ n)
     save_ready ne room le most =
-        let g = (check_is_good w capacity M n).0 (sym is ∙ good) in
+        let g = (check_is_good w capacity M n).0 good in
         let few = g.1.few in (
           good_savable w capacity M n room g.0 g.1 (omega arith) (omega arith),
           sym (ap (λ (b : Bool). length (cond b [] (saved_at M w 0))) (ne_eqb n 0 ne)) ∙ (saved_is w capacity M n g.0 g.1 (omega arith)).size,
@@ -193,4 +196,4 @@ module _ (w capacity : ℕ) (M : Mem) (n : ℕ) (lent : List ℕ) where
         let rs : List Route = saved_at M w 0 in
         let e : sets lent 0 (words_of rs) ≡ over (words_of rs) lent =
         sets-eq (words_of rs) lent 0 (omega (arith, length_words rs)) ∙ ap (λ (k : ℕ). words_of rs ++ drop k lent) (zero-add (length (words_of rs))) in
-        rw (sym is ∙ good, le-leb (n * 3) (length lent) h, ne_eqb n 0 ne) (ap (outcome (accepted n)) (wrote.words ∙ e))
+        rw (good, le-leb (n * 3) (length lent) h, ne_eqb n 0 ne) (ap (outcome (accepted n)) (wrote.words ∙ e))

@@ -4,6 +4,7 @@
 
 ghost use Rattle.std.specs.Prelude.{◌≡◌, ◌+◌, ◌*◌, ◌<◌, ◌≤◌, length};
 ghost use Rattle.promise.specs.Over.{outcome};
+ghost use Rattle.refusals.specs.Refusals.{answered};
 ghost use Rattle.table_rows.specs.Words.{row_count, capacity, row_at};
 ghost use Rattle.table_rules.specs.Save.{saved_at, save_into};
 ghost use Rattle.table_rules.specs.Walk.{saved_below};
@@ -11,9 +12,9 @@ ghost use Rattle.table_rules.specs.Savable.{Savable};
 ghost use Rattle.table_save.specs.Writing.{WroteRoutes};
 
 use list_insert::insert_route;
-use refusals::{Answer, NO_ROOM, NOT_IN_ORDER};
-use routes::store_route;
-use table_lookup::is_good;
+use refusals::{Fault, Refusal};
+use routes::{ROUTE_SIZE, store_route};
+use table_lookup::check;
 use table_rows::{route_of, whole_row};
 use table_rules::Row;
 
@@ -48,18 +49,16 @@ fn save_below(rows: &[u32], left: u32, child: u32, list: &mut [u32], at: usize) 
 
 // Saves a table of n rows as a list, over the front of the words lent. Refuses 11 where the table is not in good order, then 9
 // where the words lent have no room for n routes, both at place 0; a refusal writes nothing.
-pub fn save(rows: &[u32], n: u32, list: &mut [u32]) -> Answer
-    ensures { outcome result list.new ≡ save_into 32 (capacity rows.now) (row_at rows.now) n list.old }
+pub fn save(rows: &[u32], n: u32, list: &mut [u32]) -> Result<u32, Refusal>
+    ensures { outcome (answered result) list.new ≡ save_into 32 (capacity rows.now) (row_at rows.now) n list.old }
 {
-    if is_good(rows, n) {
-        if list.len() / 3 < n as usize {
-            return Answer::refused(NO_ROOM, 0);
-        }
-        if n == 0 {
-            return Answer::accepted(0);
-        }
-        save_at(rows, 32, 0, list, 0);
-        return Answer::accepted(n);
+    check(rows, n)?;
+    if list.len() / ROUTE_SIZE < n as usize {
+        return Err(Fault::NoRoom.at(0));
     }
-    Answer::refused(NOT_IN_ORDER, 0)
+    if n == 0 {
+        return Ok(0);
+    }
+    save_at(rows, 32, 0, list, 0);
+    Ok(n)
 }

@@ -1,5 +1,5 @@
 -- The routes of a valid list announced one after the other: each is new, and gets the next row. Assumes nothing.
-use mathlib.Core.Path.{◌≡◌, refl, sym, ap, ap₂, ◌∙◌, subst}
+use mathlib.Core.Path.{◌≡◌, refl, sym, ap, ◌∙◌, subst}
 use mathlib.Core.Bool.{Bool, cond}
 use mathlib.Core.List.{List, map}
 use Prim.Native.Nat.{ℕ, suc, ◌+◌, ◌-◌, ◌<◌, ◌≤◌}
@@ -123,29 +123,28 @@ built_all L w R ws k i h = let z : k - i ≡ 0 = omega arith in done ∙ sym (ap
     done = unfold built_from in refl
 
 -- each answer of a build
-module _ (L : Layout (List ℕ)) (w : ℕ) (list ws : List ℕ) (checked : Answer) (is : checked ≡ list_check w list) where
-  number_is : checked.number ≡ (list_check w list).number
-  number_is = ap (λ (a : Answer). a.number) is
-
-  pub build_fault : (checked.number ≡ 0 → ⊥) → outcome checked ws ≡ build_into L w list ws
+module _ (L : Layout (List ℕ)) (w : ℕ) (list ws : List ℕ) where
+  pub build_fault : (r : Answer) → r ≡ list_check w list → (r.number ≡ 0 → ⊥) → outcome r ws ≡ build_into L w list ws
   unfolding build_into
-  build_fault ne = ap (λ (a : Answer). outcome a ws) is ∙ sym (rw (ne_eqb (list_check w list).number 0 (λ e. ne (number_is ∙ e))))
+  build_fault r is ne =
+      ap (λ (a : Answer). outcome a ws) is
+      ∙ sym (rw (ne_eqb (list_check w list).number 0 (λ e. ne (ap (λ (a : Answer). a.number) is ∙ e))))
 
-  module _ (fine : checked.number ≡ 0) where
+  module _ (fine : accepted 0 ≡ list_check w list) where
+    no_fault : (list_check w list).number ≡ 0
+    no_fault = sym (ap (λ (a : Answer). a.number) fine)
+
     pub build_few : route_count list ≤ most_routes
-    build_few = (accepted_sized w list (sym number_is ∙ fine)).few
+    build_few = (accepted_sized w list no_fault).few
 
     module _ (c : ℕ) (room : c ≡ L.room ws) where
-      pub build_full : c < route_count list → (r : Answer) → r ≡ refused no_room 0 → outcome r ws ≡ build_into L w list ws
+      pub build_full : c < route_count list → outcome (refused no_room 0) ws ≡ build_into L w list ws
       unfolding build_into
-      build_full h r e =
-          ap (λ (a : Answer). outcome a ws) e
-          ∙ sym (rw (eq-eqb (list_check w list).number 0 (sym number_is ∙ fine), lt-leb (route_count list) (L.room ws) (omega arith)))
+      build_full h = sym (rw (eq-eqb (list_check w list).number 0 no_fault, lt-leb (route_count list) (L.room ws) (omega arith)))
 
-      module _ (h : route_count list ≤ c) where
-        pub build_done : (r : Answer) (ws' : List ℕ) → r ≡ accepted (route_count list)
-            → ws' ≡ built_from L w (route_at list) (route_count list) 0 ws → outcome r ws' ≡ build_into L w list ws
-        unfolding build_into
-        build_done r ws' e f =
-            ap₂ (λ (a : Answer) (v : List ℕ). outcome a v) e f
-            ∙ sym (rw (eq-eqb (list_check w list).number 0 (sym number_is ∙ fine), le-leb (route_count list) (L.room ws) (omega arith)))
+      pub build_done : route_count list ≤ c → (ws' : List ℕ) → ws' ≡ built_from L w (route_at list) (route_count list) 0 ws
+          → outcome (accepted (route_count list)) ws' ≡ build_into L w list ws
+      unfolding build_into
+      build_done h ws' f =
+          ap (outcome (accepted (route_count list))) f
+          ∙ sym (rw (eq-eqb (list_check w list).number 0 no_fault, le-leb (route_count list) (L.room ws) (omega arith)))

@@ -5,103 +5,90 @@
 ghost use Rattle.std.specs.Prelude.{◌≡◌, ◌-◌, ◌<◌};
 ghost use Rattle.table_rows.specs.Words.{five_words};
 ghost use Rattle.promise.specs.Over.{outcome};
+ghost use Rattle.refusals.specs.Refusals.{answered, updated};
 ghost use Rattle.routes.specs.Routes.{route, route_at};
 ghost use Rattle.table_update.specs.Calls.{announce_in, announce_into, prefix_only, withdraw_in, withdraw_into, built_from, build_into};
 
-use refusals::{Answer, NO_ROOM, NOT_HELD, NOT_IN_ORDER};
-use routes::Route;
+use refusals::{Fault, Refusal};
+use routes::{ROUTE_SIZE, Route};
 use table_change::refilling::take_route;
 use table_change::sinking::{is_held, put_route};
+use table_lookup::check;
 use table_rows::capacity_of;
 
 // The inner announcement, in a table in good order: a held prefix gets the new port, a new one row n; 9 where there is none.
-fn announce_in(rows: &mut [u32], n: u32, q: Route) -> Answer
-    ensures { outcome result rows.new ≡ announce_in five_words 32 rows.old n q }
+fn announce_in(rows: &mut [u32], n: u32, q: Route) -> Result<u32, Refusal>
+    ensures { outcome (updated n result) rows.new ≡ announce_in five_words 32 rows.old n q }
 {
     if is_held(rows, n, q) {
         put_route(rows, n, q);
-        return Answer::accepted(n);
+        return Ok(n);
     }
     if n < capacity_of(rows) {
         put_route(rows, n, q);
-        return Answer::accepted(n + 1);
+        return Ok(n + 1);
     }
-    Answer::keeping(NO_ROOM, 0, n)
+    Err(Fault::NoRoom.at(0))
 }
 
 // The inner withdrawal, in a table in good order; 10 where the prefix is not held.
-fn withdraw_in(rows: &mut [u32], n: u32, q: Route) -> Answer
-    ensures { outcome result rows.new ≡ withdraw_in five_words 32 rows.old n q }
+fn withdraw_in(rows: &mut [u32], n: u32, q: Route) -> Result<u32, Refusal>
+    ensures { outcome (updated n result) rows.new ≡ withdraw_in five_words 32 rows.old n q }
 {
     if is_held(rows, n, q) {
         take_route(rows, n, q);
-        return Answer::accepted(n - 1);
+        return Ok(n - 1);
     }
-    Answer::keeping(NOT_HELD, 0, n)
+    Err(Fault::NotHeld.at(0))
 }
 
-// Announces a route to a table of n routes; the count is the new n. Refuses, at place 0: 4, the length is above 32; 5, bits are
-// set past it; 6, the port is outside 1..4094; 11, the table is not in good order; 9, the prefix is new and the table full.
-pub fn announce(rows: &mut [u32], n: u32, value: u32, len: u32, port: u32) -> Answer
-    ensures { outcome result rows.new ≡ announce_into five_words 32 rows.old n (route value len port) }
+// Announces a route to a table of n routes; gives the new n. Refuses, at place 0: 4, the length is above 32; 5, bits are set
+// past it; 6, the port is outside 1..4094; 11, the table is not in good order; 9, the prefix is new and the table full.
+pub fn announce(rows: &mut [u32], n: u32, value: u32, len: u32, port: u32) -> Result<u32, Refusal>
+    ensures { outcome (updated n result) rows.new ≡ announce_into five_words 32 rows.old n (route value len port) }
 {
     let q = Route { value, len, port };
-    let fault = routes::route_fault(q);
-    if fault != 0 {
-        return Answer::keeping(fault, 0, n);
-    }
-    if table_lookup::is_good(rows, n) {
-        return announce_in(rows, n, q);
-    }
-    Answer::keeping(NOT_IN_ORDER, 0, n)
+    routes::route_fault(q)?;
+    check(rows, n)?;
+    announce_in(rows, n, q)
 }
 
-// Withdraws a prefix from a table of n routes; the count is the new n. Refuses, at place 0: 4 and 5 as announce does; 11, the
-// table is not in good order; 10, the prefix is not held.
-pub fn withdraw(rows: &mut [u32], n: u32, value: u32, len: u32) -> Answer
-    ensures { outcome result rows.new ≡ withdraw_into five_words 32 rows.old n value len }
+// Withdraws a prefix from a table of n routes; gives the new n. Refuses, at place 0: 4 and 5 as announce does; 11, the table is
+// not in good order; 10, the prefix is not held.
+pub fn withdraw(rows: &mut [u32], n: u32, value: u32, len: u32) -> Result<u32, Refusal>
+    ensures { outcome (updated n result) rows.new ≡ withdraw_into five_words 32 rows.old n value len }
 {
-    let fault = routes::prefix_fault(value, len);
-    if fault != 0 {
-        return Answer::keeping(fault, 0, n);
-    }
-    if table_lookup::is_good(rows, n) {
-        return withdraw_in(
-            rows,
-            n,
-            Route {
-                value,
-                len,
-                port: 0,
-            },
-        );
-    }
-    Answer::keeping(NOT_IN_ORDER, 0, n)
+    routes::prefix_fault(value, len)?;
+    check(rows, n)?;
+    withdraw_in(
+        rows,
+        n,
+        Route {
+            value,
+            len,
+            port: 0,
+        },
+    )
 }
 
 // The first k routes of a list, each announced into the table of those before it.
 fn fill(list: &[u32], rows: &mut [u32], k: u32)
     ensures { rows.new ≡ built_from five_words 32 (route_at list.now) k 0 rows.old }
 {
-    let mut i: u32 = 0;
-    while i < k {
+    for i in 0..k {
         put_route(rows, i, routes::route_at(list, i as usize));
-        i += 1;
     }
 }
 
-// Builds a table from a list; the count is its routes. Refuses as the check of the list does, then 9, there are not as many rows.
-pub fn build(list: &[u32], rows: &mut [u32]) -> Answer
-    ensures { outcome result rows.new ≡ build_into five_words 32 list.now rows.old }
+// Builds a table from a list; gives its routes. Refuses as the check of the list does, then 9, there are not as many rows.
+pub fn build(list: &[u32], rows: &mut [u32]) -> Result<u32, Refusal>
+    ensures { outcome (answered result) rows.new ≡ build_into five_words 32 list.now rows.old }
 {
-    let checked = routes::check_list(list);
-    if checked.number != 0 {
-        return checked;
-    }
-    let n = (list.len() / 3) as u32;
+    routes::check_list(list)?;
+    let n = (list.len() / ROUTE_SIZE) as u32;
     if capacity_of(rows) < n {
-        return Answer::refused(NO_ROOM, 0);
+        return Err(Fault::NoRoom.at(0));
     }
     fill(list, rows, n);
-    Answer::accepted(n)
+    Ok(n)
 }

@@ -1,19 +1,17 @@
-use mathlib.Core.Path.{refl, sym, ap, subst, ◌∙◌}
+use mathlib.Core.Path.{sym, ap, subst, ◌∙◌}
 use mathlib.Core.List.{List}
 use Prim.Native.Nat.{ℕ, ◌+◌, ◌-◌, ◌*◌, ◌^◌, ◌<◌}
 use native.Mathlib.Omega.{arith}
 use native.Mathlib.Nat.{sub-zero}
-use lib.ListN.{length, get_or, length-set}
+use lib.ListN.{get_or}
 use Rattle.lists.specs.Numbered.{list_of}
 use Rattle.runs_rules.specs.Runs.{Run, run_at}
-use Rattle.count_make.specs.Adding.{addresses_of, added_runs}
+use Rattle.count_make.specs.Adding.{added_runs}
 use Rattle.count_make.proofs.Added.{added_more, added_none, added_small}
 use Rattle.count_make.proofs.add_runs.Goals as goal
 
 pub loop-i-init : goal.loop-i-init
 loop-i-init c = (
-  omega arith,
-  refl,
   ap (λ (m : ℕ). added_runs c.args.counts.now (list_of (run_at c.args.runs.now) m 0)) (sub-zero c.args.k),
   λ port low. omega (arith, c.requires.small port low),
 )
@@ -41,15 +39,9 @@ add_run-requires c = let l = c.loop-i in
     let k = c.shared_slice_known-1.given in
     record {
       some = c.requires.some l.i c.loop-i-test.true;
-      counted = omega (arith, c.requires.counted l.i c.loop-i-test.true, c.requires.room, l.invariant.1);
-      small = omega (arith, l.invariant.3 (run_at c.args.runs.now l.i).port (c.requires.counted l.i c.loop-i-test.true), k (l.i * 3), k (l.i * 3 + 1));
+      counted = omega (arith, c.requires.counted l.i c.loop-i-test.true, c.requires.room, l.auto.counts);
+      small = omega (arith, l.invariant.1 (run_at c.args.runs.now l.i).port (c.requires.counted l.i c.loop-i-test.true), k (l.i * 3), k (l.i * 3 + 1));
     }
-
-pub overflow_add-i : goal.overflow_add-i
-overflow_add-i c = omega (arith, c.loop-i-test.true, c.requires.few)
-
-pub loop-i-smaller : goal.loop-i-smaller
-loop-i-smaller c = omega arith
 
 pub loop-i-preserved : goal.loop-i-preserved
 loop-i-preserved c = let l = c.loop-i in
@@ -58,19 +50,14 @@ loop-i-preserved c = let l = c.loop-i in
     let ws = c.args.runs.now in
     let r : Run = run_at ws l.i in
     let x = c.add_run.ensures in (
-      omega arith,
-      ap length x ∙ length-set l.counts r.port (get_or l.counts r.port 0 + addresses_of r) ∙ l.invariant.1,
       ap (λ (xs : List ℕ). added_runs xs (list_of (run_at ws) (c.args.k - (l.i + 1)) (l.i + 1))) x
           ∙ sym (added_more (run_at ws) l.counts c.args.k l.i t)
-          ∙ l.invariant.2,
+          ∙ l.invariant.0,
       λ port low.
           subst (λ (xs : List ℕ). get_or xs port 0 + (c.args.k - (l.i + 1)) * 2 ^ 32 < 2 ^ 64) (sym x)
-          (added_small l.counts r c.args.k l.i t (omega (arith, c.requires.counted l.i t, c.requires.room, l.invariant.1)) (omega (arith, k (l.i * 3 + 1))) (c.requires.counted l.i t) l.invariant.3 port low),
+          (added_small l.counts r c.args.k l.i t (omega (arith, c.requires.counted l.i t, c.requires.room, l.auto.counts)) (omega (arith, k (l.i * 3 + 1))) (c.requires.counted l.i t) l.invariant.1 port low),
     )
-
-pub shape_of-counts : goal.shape_of-counts
-shape_of-counts c = c.loop-i.invariant.1
 
 pub returns : goal.returns
 returns c = let l = c.loop-i in
-    sym (added_none (run_at c.args.runs.now) l.counts c.args.k l.i (omega (arith, c.loop-i-test.false))) ∙ l.invariant.2
+    sym (added_none (run_at c.args.runs.now) l.counts c.args.k l.i (omega (arith, c.loop-i-test.false))) ∙ l.invariant.0

@@ -6,6 +6,3 @@ use Rattle.entries.proofs.fill.Given as goal
 
 abbrev pub invariant-loop-i : goal.invariant-loop-i
 invariant-loop-i l = (length l.store ≡ length l.initial.store) × (sets l.store l.i (replicate (l.past - l.i) l.entry) ≡ sets l.initial.store l.from (replicate (l.past - l.from) l.entry))
-
-abbrev pub decreases-loop-i : goal.decreases-loop-i
-decreases-loop-i l = l.past - l.i

@@ -1,6 +1,5 @@
-use Prim.Native.Nat.{◌-◌}
 use native.Mathlib.Omega.{arith}
-use Rattle.file_read.proofs.FillLoop.{filled_none, filled_entire, filled_next, filled_more, filled_all}
+use Rattle.file_read.proofs.FillLoop.{filled_none, filled_entire, filled_next, filled_more}
 use Rattle.file_read.proofs.fill_list.Goals as goal
 
 pub loop-i-init : goal.loop-i-init
@@ -15,19 +14,6 @@ pub overflow_add-at : goal.overflow_add-at
 overflow_add-at c = let a = c.args in
     omega (arith, filled_next 32 a.file.now a.list.now a.n c.requires _ _ _ c.loop-i.invariant c.loop-i-test.true _ _ c.read_at-r.ensures c.route_size-at.ensures.is)
 
-pub overflow_add-i : goal.overflow_add-i
-overflow_add-i c = omega arith
-
-pub loop-i-smaller : goal.loop-i-smaller
-loop-i-smaller c = omega arith
-
 pub loop-i-preserved : goal.loop-i-preserved
 loop-i-preserved c = let a = c.args in
     filled_more 32 a.file.now a.list.now a.n c.requires _ _ _ c.loop-i.invariant c.loop-i-test.true _ _ _ c.read_at-r.ensures c.store_route.ensures c.route_size-at.ensures.is
-
-pub shape_of-list : goal.shape_of-list
-shape_of-list c = c.loop-i.invariant.same
-
-pub returns : goal.returns
-returns c = let a = c.args in
-    filled_all 32 a.file.now a.list.now a.n c.requires _ _ _ c.loop-i.invariant c.loop-i-test.false

@@ -1,4 +1,4 @@
-use Rattle.file_read.proofs.Frame.{head_short, head_other, head_sized, head_unsized}
+use Rattle.file_read.proofs.Head.{head_short, head_other, head_sized, head_unsized}
 use Rattle.file_read.proofs.head_fault.Goals as goal
 
 pub returns-then-file-lt-HEAD_SIZE : goal.returns-then-file-lt-HEAD_SIZE

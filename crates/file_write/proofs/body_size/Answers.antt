@@ -1,4 +1,3 @@
-use Prim.Native.Nat.{◌-◌}
 use native.Mathlib.Omega.{arith}
 use Rattle.routes.specs.Routes.{route_at, route_count}
 use Rattle.octets.proofs.Parts.{summed_none, summed_more}
@@ -11,12 +10,6 @@ loop-i-init c = let list = c.args.list.now in
 
 pub overflow_add-size : goal.overflow_add-size
 overflow_add-size c = omega (arith, counted_small 32 c.args.list.now c.requires _ _ c.loop-i.invariant, c.route_size-size.ensures.small)
-
-pub overflow_add-i : goal.overflow_add-i
-overflow_add-i c = omega arith
-
-pub loop-i-smaller : goal.loop-i-smaller
-loop-i-smaller c = omega arith
 
 pub loop-i-preserved : goal.loop-i-preserved
 loop-i-preserved c = let list = c.args.list.now in

@@ -1,7 +1,5 @@
-use Prim.Native.Nat.{◌-◌}
-use native.Mathlib.Omega.{arith}
 use Rattle.routes.specs.Routes.{route_at, route_count}
-use Rattle.octets.proofs.Parts.{laid_none, laid_next, laid_more, laid_all}
+use Rattle.octets.proofs.Parts.{laid_none, laid_more}
 use Rattle.file_rules.specs.File.{head_size}
 use Rattle.file_write.proofs.Bodies.{route_coding, bodied_room}
 use Rattle.file_write.proofs.put_body.Goals as goal
@@ -14,23 +12,6 @@ loop-i-init c = let a = c.args in
 pub put_bytes-requires : goal.put_bytes-requires
 put_bytes-requires c = bodied_room 32 c.args.list.now c.args.file.now c.requires _ _ _ c.loop-i.invariant c.loop-i-test.true _ c.route_at-r.ensures
 
-pub overflow_add-at : goal.overflow_add-at
-overflow_add-at c = let list = c.args.list.now in
-    omega (arith, laid_next (route_coding 32) (route_at list) (route_count list) head_size c.args.file.now c.requires.room _ _ _ c.loop-i.invariant c.loop-i-test.true _ _ c.route_at-r.ensures c.route_size-at.ensures.is, c.loop-i.invariant.same)
-
-pub overflow_add-i : goal.overflow_add-i
-overflow_add-i c = omega arith
-
-pub loop-i-smaller : goal.loop-i-smaller
-loop-i-smaller c = omega arith
-
 pub loop-i-preserved : goal.loop-i-preserved
 loop-i-preserved c = let list = c.args.list.now in
     laid_more (route_coding 32) (route_at list) (route_count list) head_size c.args.file.now c.requires.room _ _ _ c.loop-i.invariant c.loop-i-test.true _ _ _ c.route_at-r.ensures c.route_size-at.ensures.is c.put_bytes.ensures
-
-pub shape_of-file : goal.shape_of-file
-shape_of-file c = c.loop-i.invariant.same
-
-pub returns : goal.returns
-returns c = let list = c.args.list.now in
-    laid_all (route_coding 32) (route_at list) (route_count list) head_size c.args.file.now c.requires.room _ _ _ c.loop-i.invariant c.loop-i-test.false

@@ -1,50 +1,30 @@
-use mathlib.Core.Path.{refl, sym, ◌∙◌}
-use Prim.Native.Nat.{◌-◌}
+use mathlib.Core.Path.{◌≡◌, ap, ◌∙◌}
+use lib.ListN.{length}
 use native.Mathlib.Omega.{arith}
 use Rattle.table_rows.specs.Words.{five_words}
-use Rattle.message_calls.specs.Steps.{add_one}
+use Rattle.message_calls.specs.Steps.{folded, add_one}
 use Rattle.message_apply.specs.Needs.{table_as}
 use Rattle.message_apply.proofs.Ones.{count_le}
-use Rattle.message_apply.proofs.Walks.{walked_none, walked_more, walked_long, walked_cut, walked_all}
+use Rattle.message_rules.specs.Left.{left}
+use Rattle.message_rules.specs.Message.{prefixes_in}
+use Rattle.message_rules.proofs.Walk.{length_prefixes}
+use Rattle.message_apply.proofs.Folding.{fold_next, fold_done}
 use Rattle.message_apply.proofs.add_part.Goals as goal
 
-pub loop-at-init : goal.loop-at-init
-loop-at-init c = let d = c.args in
-    (walked_none (add_one five_words 32 d.port) 32 d.part.now (table_as d.rows.now d.count), omega arith, refl)
+pub loop-p-init : goal.loop-p-init
+loop-p-init c = let d = c.args in
+    let e : left c.into_iter-p-iterator.result ≡ prefixes_in 32 d.part.now = ap left c.into_iter-p-iterator.ensures.into_iter_gives ∙ c.new-p-items.ensures in
+    record { is = ap (folded (add_one five_words 32 d.port) (table_as d.rows.now d.count)) e; few = omega (arith, ap length e) }
 
 pub add_one-n-requires : goal.add_one-n-requires
-add_one-n-requires c = omega (arith, c.loop-at.invariant.1, c.loop-at-test.true, c.requires)
+add_one-n-requires c = omega (arith, c.requires, length_prefixes 32 c.args.part.now (length c.args.part.now) 0, c.loop-p.invariant.few)
 
-pub overflow_add-at : goal.overflow_add-at
-overflow_add-at c = omega (arith, c.prefix_size-at.ensures.small, c.loop-at-test.true, c.requires)
-
-pub loop-at-smaller : goal.loop-at-smaller
-loop-at-smaller c = omega (arith, c.prefix_size-at.ensures.is, c.loop-at-test.true)
-
-pub loop-at-preserved : goal.loop-at-preserved
-loop-at-preserved c = let d = c.args in (
-  walked_more (add_one five_words 32 d.port) 32 d.part.now (table_as d.rows.now d.count) (table_as c.loop-at.rows c.loop-at.n) c.loop-at.at c.loop-at.invariant.0 _ (sym c.take_prefix.ensures ∙ c.in-Whole.is) _ c.add_one-n.ensures _ c.prefix_size-at.ensures.is,
-  omega (arith, count_le five_words 32 d.port c.loop-at.rows _ c.loop-at.n c.add_one-n.result _ c.add_one-n.ensures, c.loop-at.invariant.1, c.prefix_size-at.ensures.is),
-  c.add_one-n.auto.rows ∙ c.loop-at.invariant.2,
-)
-
-pub shape_of-rows-in-Long : goal.shape_of-rows-in-Long
-shape_of-rows-in-Long c = c.loop-at.invariant.2
-
-pub returns-in-Long : goal.returns-in-Long
-returns-in-Long c = let d = c.args in
-    walked_long (add_one five_words 32 d.port) 32 d.part.now (table_as d.rows.now d.count) (table_as c.loop-at.rows c.loop-at.n) c.loop-at.at c.loop-at.invariant.0 (sym c.take_prefix.ensures ∙ c.in-Long.is)
-
-pub shape_of-rows-in-Cut : goal.shape_of-rows-in-Cut
-shape_of-rows-in-Cut c = c.loop-at.invariant.2
-
-pub returns-in-Cut : goal.returns-in-Cut
-returns-in-Cut c = let d = c.args in
-    walked_cut (add_one five_words 32 d.port) 32 d.part.now (table_as d.rows.now d.count) (table_as c.loop-at.rows c.loop-at.n) c.loop-at.at c.loop-at.invariant.0 (sym c.take_prefix.ensures ∙ c.in-Cut.is)
-
-pub shape_of-rows : goal.shape_of-rows
-shape_of-rows c = c.loop-at.invariant.2
+pub loop-p-preserved : goal.loop-p-preserved
+loop-p-preserved c = let d = c.args in record {
+  is = fold_next (add_one five_words 32 d.port) (table_as c.loop-p.rows c.loop-p.n) _ _ _ c.in-Some.ensures.steps _ c.add_one-n.ensures ∙ c.loop-p.invariant.is;
+  few = omega (arith, count_le five_words 32 d.port c.loop-p.rows _ c.loop-p.n c.add_one-n.result _ c.add_one-n.ensures, c.loop-p.invariant.few, ap length c.in-Some.ensures.steps);
+}
 
 pub returns : goal.returns
 returns c = let d = c.args in
-    walked_all (add_one five_words 32 d.port) 32 d.part.now (table_as d.rows.now d.count) (table_as c.loop-at.rows c.loop-at.n) c.loop-at.at c.loop-at.invariant.0 c.loop-at-test.false
+    fold_done (add_one five_words 32 d.port) (table_as c.loop-p.rows c.loop-p.n) _ c.in-None.ensures.steps.0 ∙ c.loop-p.invariant.is

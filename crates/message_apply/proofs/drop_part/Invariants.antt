@@ -1,15 +1,11 @@
 use mathlib.Core.Path.{◌≡◌}
-use Prim.Native.Nat.{◌-◌}
-use lib.ListN.{length}
 use Rattle.table_rows.specs.Words.{five_words}
 use Rattle.message_calls.specs.Named.{holds}
-use Rattle.message_calls.specs.Steps.{drop_one}
+use Rattle.message_calls.specs.Steps.{folded, drop_one}
 use Rattle.message_apply.specs.Needs.{table_as}
-use Rattle.message_apply.proofs.Walks.{Walked}
+use Rattle.message_rules.specs.Left.{left}
+use Rattle.message_rules.specs.Message.{prefixes_in}
 use Rattle.message_apply.proofs.drop_part.Given as goal
 
-abbrev pub invariant-loop-at : goal.invariant-loop-at
-invariant-loop-at l = Walked (drop_one five_words 32 (holds 32 (five_words.get l.seen) l.met)) 32 l.part (table_as l.initial.rows l.count) (table_as l.rows l.n) l.at × (length l.rows ≡ length l.initial.rows)
-
-abbrev pub decreases-loop-at : goal.decreases-loop-at
-decreases-loop-at l = length l.part - l.at
+abbrev pub invariant-loop-p : goal.invariant-loop-p
+invariant-loop-p l = folded (drop_one five_words 32 (holds 32 (five_words.get l.seen) l.met)) (table_as l.rows l.n) (left l.p-iterator) ≡ folded (drop_one five_words 32 (holds 32 (five_words.get l.seen) l.met)) (table_as l.initial.rows l.count) (prefixes_in 32 l.part)

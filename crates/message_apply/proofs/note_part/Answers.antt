@@ -1,61 +1,40 @@
-use mathlib.Core.Path.{refl, sym, ◌∙◌}
-use Prim.Native.Nat.{◌-◌}
+use mathlib.Core.Path.{◌≡◌, ap, ◌∙◌}
+use lib.ListN.{length}
 use native.Mathlib.Omega.{arith}
 use Rattle.table_rows.specs.Words.{five_words}
 use Rattle.message_calls.specs.Named.{holds}
-use Rattle.message_calls.specs.Steps.{note_one}
+use Rattle.message_calls.specs.Steps.{folded, note_one}
 use Rattle.message_apply.specs.Needs.{noted_as}
 use Rattle.message_apply.proofs.Ones.{tally_le}
-use Rattle.message_apply.proofs.Walks.{walked_none, walked_more, walked_long, walked_cut, walked_all}
+use Rattle.message_rules.specs.Left.{left}
+use Rattle.message_rules.specs.Message.{prefixes_in}
+use Rattle.message_rules.proofs.Walk.{length_prefixes}
+use Rattle.message_apply.proofs.Folding.{fold_next, fold_done}
 use Rattle.message_apply.proofs.note_part.Goals as goal
 
-pub loop-at-init : goal.loop-at-init
-loop-at-init c = let d = c.args in
-    (walked_none (note_one five_words 32 (holds 32 (five_words.get d.rows.now) d.n) d.port) 32 d.part.now (noted_as d.seen.now d.start), omega arith, omega arith, refl)
+pub loop-p-init : goal.loop-p-init
+loop-p-init c = let d = c.args in
+    let e : left c.into_iter-p-iterator.result ≡ prefixes_in 32 d.part.now = ap left c.into_iter-p-iterator.ensures.into_iter_gives ∙ c.new-p-items.ensures in
+    record { is = ap (folded (note_one five_words 32 (holds 32 (five_words.get d.rows.now) d.n) d.port) (noted_as d.seen.now d.start)) e; met = omega (arith, ap length e); hits = omega (arith, ap length e) }
 
 pub note_one-t-requires : goal.note_one-t-requires
-note_one-t-requires c = record {
-  met = omega (arith, c.loop-at.invariant.1, c.loop-at-test.true, c.requires.0);
-  hits = omega (arith, c.loop-at.invariant.2, c.loop-at-test.true, c.requires.1);
-}
+note_one-t-requires c = let some = ap length c.in-Some.ensures.steps in
+    let most = length_prefixes 32 c.args.part.now (length c.args.part.now) 0 in
+    record {
+      met = omega (arith, some, most, c.loop-p.invariant.met, c.requires.0);
+      hits = omega (arith, some, most, c.loop-p.invariant.hits, c.requires.1);
+    }
 
-pub overflow_add-at : goal.overflow_add-at
-overflow_add-at c = omega (arith, c.prefix_size-at.ensures.small, c.loop-at.invariant.0.within, c.loop-at-test.true, c.requires.0)
-
-pub loop-at-smaller : goal.loop-at-smaller
-loop-at-smaller c = omega (arith, c.prefix_size-at.ensures.is, c.loop-at-test.true)
-
-pub loop-at-preserved : goal.loop-at-preserved
-loop-at-preserved c = let d = c.args in
-    let u = tally_le five_words 32 (holds 32 (five_words.get d.rows.now) d.n) d.port c.loop-at.seen _ c.loop-at.t c.note_one-t.result _ c.note_one-t.ensures in (
-      walked_more (note_one five_words 32 (holds 32 (five_words.get d.rows.now) d.n) d.port) 32 d.part.now (noted_as d.seen.now d.start)
-          (noted_as c.loop-at.seen c.loop-at.t) c.loop-at.at c.loop-at.invariant.0 _ (sym c.take_prefix.ensures ∙ c.in-Whole.is)
-          _ c.note_one-t.ensures _ c.prefix_size-at.ensures.is,
-      omega (arith, u.0, c.loop-at.invariant.1, c.prefix_size-at.ensures.is),
-      omega (arith, u.1, c.loop-at.invariant.2, c.prefix_size-at.ensures.is),
-      c.note_one-t.auto.seen ∙ c.loop-at.invariant.3,
-    )
-
-pub shape_of-seen-in-Long : goal.shape_of-seen-in-Long
-shape_of-seen-in-Long c = c.loop-at.invariant.3
-
-pub returns-in-Long : goal.returns-in-Long
-returns-in-Long c = let d = c.args in
-    walked_long (note_one five_words 32 (holds 32 (five_words.get d.rows.now) d.n) d.port) 32 d.part.now (noted_as d.seen.now d.start)
-    (noted_as c.loop-at.seen c.loop-at.t) c.loop-at.at c.loop-at.invariant.0 (sym c.take_prefix.ensures ∙ c.in-Long.is)
-
-pub shape_of-seen-in-Cut : goal.shape_of-seen-in-Cut
-shape_of-seen-in-Cut c = c.loop-at.invariant.3
-
-pub returns-in-Cut : goal.returns-in-Cut
-returns-in-Cut c = let d = c.args in
-    walked_cut (note_one five_words 32 (holds 32 (five_words.get d.rows.now) d.n) d.port) 32 d.part.now (noted_as d.seen.now d.start)
-    (noted_as c.loop-at.seen c.loop-at.t) c.loop-at.at c.loop-at.invariant.0 (sym c.take_prefix.ensures ∙ c.in-Cut.is)
-
-pub shape_of-seen : goal.shape_of-seen
-shape_of-seen c = c.loop-at.invariant.3
+pub loop-p-preserved : goal.loop-p-preserved
+loop-p-preserved c = let d = c.args in
+    let some = ap length c.in-Some.ensures.steps in
+    let u = tally_le five_words 32 (holds 32 (five_words.get d.rows.now) d.n) d.port c.loop-p.seen _ c.loop-p.t c.note_one-t.result _ c.note_one-t.ensures in
+    record {
+      is = fold_next (note_one five_words 32 (holds 32 (five_words.get d.rows.now) d.n) d.port) (noted_as c.loop-p.seen c.loop-p.t) _ _ _ c.in-Some.ensures.steps _ c.note_one-t.ensures ∙ c.loop-p.invariant.is;
+      met = omega (arith, u.0, some, c.loop-p.invariant.met);
+      hits = omega (arith, u.1, some, c.loop-p.invariant.hits);
+    }
 
 pub returns : goal.returns
 returns c = let d = c.args in
-    walked_all (note_one five_words 32 (holds 32 (five_words.get d.rows.now) d.n) d.port) 32 d.part.now (noted_as d.seen.now d.start)
-    (noted_as c.loop-at.seen c.loop-at.t) c.loop-at.at c.loop-at.invariant.0 c.loop-at-test.false
+    fold_done (note_one five_words 32 (holds 32 (five_words.get d.rows.now) d.n) d.port) (noted_as c.loop-p.seen c.loop-p.t) _ c.in-None.ensures.steps.0 ∙ c.loop-p.invariant.is

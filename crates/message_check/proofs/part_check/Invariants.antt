@@ -1,6 +1,6 @@
 use Prim.Native.Nat.{◌-◌}
 use lib.ListN.{length}
-use Rattle.message_check.proofs.Parts.{Passed}
+use Rattle.message_check.proofs.Walk.{Passed}
 use Rattle.message_check.proofs.part_check.Given as goal
 
 abbrev pub invariant-loop-at : goal.invariant-loop-at

@@ -1,4 +1,3 @@
-use Prim.Native.Nat.{◌-◌}
 use native.Mathlib.Omega.{arith}
 use Rattle.message_write.proofs.Heads.{marking_none, marking_more, marking_all}
 use Rattle.message_write.proofs.put_marker.Goals as goal
@@ -8,12 +7,6 @@ loop-i-init c = marking_none c.args.message.now
 
 pub bounds-message-i : goal.bounds-message-i
 bounds-message-i c = omega (arith, c.loop-i.invariant.same)
-
-pub overflow_add-i : goal.overflow_add-i
-overflow_add-i c = omega arith
-
-pub loop-i-smaller : goal.loop-i-smaller
-loop-i-smaller c = omega arith
 
 pub loop-i-preserved : goal.loop-i-preserved
 loop-i-preserved c = marking_more c.args.message.now c.requires c.loop-i.message c.loop-i.i c.loop-i.invariant c.loop-i-test.true

@@ -1,10 +1,5 @@
-use Prim.Native.Nat.{◌-◌}
-use Rattle.message_rules.specs.Message.{marker_size}
 use Rattle.message_write.proofs.Heads.{Marking}
 use Rattle.message_write.proofs.put_marker.Given as goal
 
 abbrev pub invariant-loop-i : goal.invariant-loop-i
 invariant-loop-i l = Marking l.initial.message l.message l.i
-
-abbrev pub decreases-loop-i : goal.decreases-loop-i
-decreases-loop-i l = marker_size - l.i

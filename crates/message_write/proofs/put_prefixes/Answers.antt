@@ -1,5 +1,4 @@
 use mathlib.Core.Path.{◌∙◌}
-use Prim.Native.Nat.{◌-◌}
 use native.Mathlib.Omega.{arith}
 use Rattle.routes.specs.Routes.{route_at, route_count}
 use Rattle.octets.proofs.Store.{prefix_fits}
@@ -16,12 +15,6 @@ loop-i-init c = let a = c.args in
 pub overflow_add-at : goal.overflow_add-at
 overflow_add-at c = let list = c.args.list.now in
     omega (arith, laid_next (prefix_coding 32) (route_at list) (route_count list) withdrawn_at c.args.message.now c.requires.room c.loop-i.message c.loop-i.at c.loop-i.i c.loop-i.invariant c.loop-i-test.true _ _ c.route_at-r.ensures c.prefix_size-at.ensures.is, c.loop-i.invariant.same)
-
-pub overflow_add-i : goal.overflow_add-i
-overflow_add-i c = omega arith
-
-pub loop-i-smaller : goal.loop-i-smaller
-loop-i-smaller c = omega arith
 
 pub loop-i-preserved : goal.loop-i-preserved
 loop-i-preserved c = let list = c.args.list.now in

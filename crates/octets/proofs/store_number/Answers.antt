@@ -6,29 +6,8 @@ use Rattle.octets.proofs.store_number.Goals as goal
 pub loop-j-init : goal.loop-j-init
 loop-j-init c = digits_none c.args.bytes.now c.args.at c.args.k c.args.x
 
-pub overflow_sub-gap : goal.overflow_sub-gap
-overflow_sub-gap c = omega arith
-
-pub overflow_sub-gap-in-loop-j : goal.overflow_sub-gap-in-loop-j
-overflow_sub-gap-in-loop-j c = omega arith
-
-pub overflow_mul-gap : goal.overflow_mul-gap
-overflow_mul-gap c = omega arith
-
-pub overflow_shr-bytes : goal.overflow_shr-bytes
-overflow_shr-bytes c = omega arith
-
-pub overflow_add-bytes : goal.overflow_add-bytes
-overflow_add-bytes c = omega arith
-
 pub bounds-bytes-at : goal.bounds-bytes-at
 bounds-bytes-at c = omega (arith, c.loop-j.invariant.same)
-
-pub overflow_add-j : goal.overflow_add-j
-overflow_add-j c = omega arith
-
-pub loop-j-smaller : goal.loop-j-smaller
-loop-j-smaller c = omega arith
 
 pub loop-j-preserved : goal.loop-j-preserved
 loop-j-preserved c = let a = c.args in

@@ -10,7 +10,7 @@ use Rattle.page.proofs.put_lines.Goals as goal
 
 pub loop-i-init : goal.loop-i-init
 unfolding list_of
-loop-i-init c = (omega arith, refl, omega arith, wrote_none)
+loop-i-init c = (omega arith, wrote_none)
 
 pub overflow_mul-row : goal.overflow_mul-row
 overflow_mul-row c = omega (arith, c.requires.few)
@@ -32,25 +32,16 @@ bounds-runs-row-in-loop-i-2 c = omega (arith, c.requires.there, c.loop-i-test.tr
 
 pub put_line-next-requires : goal.put_line-next-requires
 put_line-next-requires c = let l = c.loop-i in
-    omega (arith, c.requires.room, l.invariant.1, l.invariant.2, c.loop-i-test.true)
-
-pub overflow_add-i : goal.overflow_add-i
-overflow_add-i c = omega (arith, c.loop-i-test.true)
-
-pub loop-i-smaller : goal.loop-i-smaller
-loop-i-smaller c = omega arith
+    omega (arith, c.requires.room, l.auto.out, l.invariant.0, c.loop-i-test.true)
 
 pub loop-i-preserved : goal.loop-i-preserved
 loop-i-preserved c = let l = c.loop-i in
     let k = c.shared_slice_known-1.given in
     let w = c.args.runs.now in
     let p = c.put_line-next.ensures in
-    (omega arith, omega (arith, l.invariant.1), omega (arith, l.invariant.2, p.next_is_lem, line_le (get_or w (l.i * 3) 0) (get_or w (l.i * 3 + 1) 0) (get_or w (l.i * 3 + 2) 0) (omega (arith, k (l.i * 3))) (omega (arith, k (l.i * 3 + 1))) (omega (arith, k (l.i * 3 + 2)))), wrote_line (run_at w) l.i l.invariant.3 p)
-
-pub shape_of-out : goal.shape_of-out
-shape_of-out c = c.loop-i.invariant.1
+    (omega (arith, l.invariant.0, p.next_is_lem, line_le (get_or w (l.i * 3) 0) (get_or w (l.i * 3 + 1) 0) (get_or w (l.i * 3 + 2) 0) (omega (arith, k (l.i * 3))) (omega (arith, k (l.i * 3 + 1))) (omega (arith, k (l.i * 3 + 2)))), wrote_line (run_at w) l.i l.invariant.1 p)
 
 pub returns : goal.returns
 returns c = let l = c.loop-i in
-    let all : l.i ≡ c.args.n = omega (arith, l.invariant.0, c.loop-i-test.false) in
-    rw all at l.invariant.3
+    let all : l.i ≡ c.args.n = omega arith in
+    rw all at l.invariant.1

@@ -8,7 +8,4 @@ use Rattle.page.specs.Needs.{Wrote}
 use Rattle.page.proofs.put_lines.Given as goal
 
 abbrev pub invariant-loop-i : goal.invariant-loop-i
-invariant-loop-i l = (l.i ≤ l.n) × (length l.out ≡ length l.initial.out) × (l.next ≤ l.at + l.i * line_room) × Wrote l.initial.out l.at (lines_of (list_of (run_at l.runs) l.i 0)) l.next l.out
-
-abbrev pub decreases-loop-i : goal.decreases-loop-i
-decreases-loop-i l = l.n - l.i
+invariant-loop-i l = (l.next ≤ l.at + l.i * line_room) × Wrote l.initial.out l.at (lines_of (list_of (run_at l.runs) l.i 0)) l.next l.out

@@ -4,8 +4,8 @@ use Rattle.segment_lookup.proofs.last_read.Goals as goal
 
 pub returns-then-last-from : goal.returns-then-last-from
 unfolding last_read
-returns-then-last-from c = simp (lt-leb _ _ (rw c.wide-from.ensures.0 at c.if-last-from.true)) c.lost.ensures
+returns-then-last-from c = simp (lt-leb _ _ c.if-last-from.true) c.lost.ensures
 
 pub returns : goal.returns
 unfolding last_read
-returns c = simp (le-leb _ _ (rw c.wide-from.ensures.0 at c.if-last-from.false)) (cc)
+returns c = simp (le-leb _ _ c.if-last-from.false) (cc)

@@ -5,4 +5,4 @@ pub returns-then-entry-gt-LAST_PORT : goal.returns-then-entry-gt-LAST_PORT
 returns-then-entry-gt-LAST_PORT c = simp (lt-leb _ _ c.if-entry-gt-LAST_PORT.true) c.lost.ensures
 
 pub returns : goal.returns
-returns c = simp (le-leb _ _ c.if-entry-gt-LAST_PORT.false) c.found.ensures
+returns c = simp (le-leb _ _ c.if-entry-gt-LAST_PORT.false)

@@ -1,24 +1,13 @@
 use mathlib.Core.Path.{refl}
-use Prim.Native.Nat.{◌-◌}
 use native.Mathlib.Omega.{arith}
-use lib.Count.{ones-le}
 use Rattle.segment_pack.proofs.Codewords.{coded_none, coded_more, coded_all}
 use Rattle.segment_pack.proofs.codes_of.Goals as goal
 
 pub loop-c-init : goal.loop-c-init
-loop-c-init c = coded_none _ _ _ refl refl
-
-pub overflow_cast-bits : goal.overflow_cast-bits
-overflow_cast-bits c = omega (arith, c.eight_bits-eight.ensures.1)
-
-pub overflow_cast-bases : goal.overflow_cast-bases
-overflow_cast-bases c = omega (arith, c.loop-c.invariant.ones_few)
-
-pub overflow_add-ones : goal.overflow_add-ones
-overflow_add-ones c = omega (arith, c.loop-c.invariant.ones_few, ones-le 8 c.eight_bits-eight.result c.eight_bits-eight.ensures.1)
+loop-c-init c = coded_none _ _ refl
 
 pub loop-c-preserved : goal.loop-c-preserved
-loop-c-preserved c = coded_more _ _ _ refl refl c.loop-c.invariant c.loop-c-test.true _ _ c.eight_bits-eight.ensures.0 refl c.eight_bits-eight.ensures.1
+loop-c-preserved c = coded_more _ _ refl c.loop-c.invariant c.loop-c-test.true _ _ c.eight_bits-eight.ensures.0 refl c.eight_bits-eight.ensures.1
 
 pub returns : goal.returns
-returns c = coded_all _ _ _ refl refl c.loop-c.invariant c.loop-c-test.false
+returns c = coded_all _ _ refl c.loop-c.invariant (omega arith)

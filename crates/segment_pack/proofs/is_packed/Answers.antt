@@ -1,5 +1,5 @@
 use mathlib.Core.Path.{◌≡◌, ◌∙◌, ap, sym}
-use Prim.Native.Nat.{ℕ, ◌-◌}
+use Prim.Native.Nat.{ℕ}
 use native.Mathlib.Omega.{arith}
 use lib.Dec.{leb}
 use Rattle.lists.proofs.Below.{number_zero}
@@ -8,14 +8,11 @@ use Rattle.segment_pack.proofs.Codewords.{ones_more}
 use Rattle.segment_pack.proofs.is_packed.Goals as goal
 
 pub loop-i-init : goal.loop-i-init
-loop-i-init c = (omega arith, omega arith, sym (number_zero _))
-
-pub overflow_add-ones : goal.overflow_add-ones
-overflow_add-ones c = omega (arith, c.bit_of-ones.ensures.1)
+loop-i-init c = (omega arith, sym (number_zero _))
 
 pub loop-i-preserved : goal.loop-i-preserved
-loop-i-preserved c = (omega arith, omega (arith, c.bit_of-ones.ensures.1), ones_more _ _ _ _ c.loop-i.invariant.2 c.bit_of-ones.ensures.0)
+loop-i-preserved c = (omega (arith, c.bit_of-ones.ensures.1), ones_more _ _ _ _ c.loop-i.invariant.1 c.bit_of-ones.ensures.0)
 
 pub returns : goal.returns
-returns c = let e : c.loop-i.i ≡ 256 = omega (arith, c.loop-i.invariant.0) in
-    ap (λ (k : ℕ). leb k 64) (c.loop-i.invariant.2 ∙ ap (ones_below _) e)
+returns c = let e : c.loop-i.i ≡ 256 = omega arith in
+    ap (λ (k : ℕ). leb k 64) (c.loop-i.invariant.1 ∙ ap (ones_below _) e)

@@ -1,34 +1,19 @@
-use mathlib.Core.Path.{◌≡◌, sym, ap, ◌∙◌}
-use Prim.Native.Nat.{ℕ, ◌-◌}
 use native.Mathlib.Omega.{arith}
 use lib.ListN.{length-set}
-use Rattle.promise.specs.Over.{over}
-use Rattle.lists.specs.Numbered.{list_of}
-use Rattle.segment_rules.specs.Packed.{codeword}
+use Rattle.segment_pack.specs.Pack.{code}
 use Rattle.segment_pack.proofs.Codewords.{words_more, words_none}
-use Rattle.segment_pack.proofs.Packed.{bits_lt, base_le, code_at}
+use Rattle.segment_pack.proofs.Packed.{bits_lt, base_le, word_at}
 use Rattle.segment_pack.proofs.put_codes.Goals as goal
 
 pub loop-c-init : goal.loop-c-init
-loop-c-init c = (omega arith, c.requires.1, words_none _ _)
+loop-c-init c = (c.requires.1, words_none _ _)
 
 pub overflow_mul-block : goal.overflow_mul-block
-overflow_mul-block c = omega (arith, bits_lt _ _ c.requires.0.is _ c.loop-c-test.true)
+overflow_mul-block c = omega (arith, bits_lt _ _ c.requires.0.is (code 0 0) _ c.loop-c-test.true)
 
 pub overflow_add-block : goal.overflow_add-block
-overflow_add-block c = omega (arith, bits_lt _ _ c.requires.0.is _ c.loop-c-test.true, base_le _ _ c.requires.0.is c.requires.0.few _ c.loop-c-test.true)
-
-pub bounds-block-c : goal.bounds-block-c
-bounds-block-c c = omega (arith, c.loop-c.invariant.1)
+overflow_add-block c = omega (arith, bits_lt _ _ c.requires.0.is (code 0 0) _ c.loop-c-test.true, base_le _ _ c.requires.0.is (code 0 0) _ c.loop-c-test.true c.requires.0.few)
 
 pub loop-c-preserved : goal.loop-c-preserved
 loop-c-preserved c = let inv = c.loop-c.invariant in
-    (omega arith, simp length-set inv.1, words_more _ _ _ _ _ inv.2 (omega (arith, c.requires.1)) (code_at _ _ c.requires.0.is _ c.loop-c-test.true))
-
-pub shape_of-block : goal.shape_of-block
-shape_of-block c = c.loop-c.invariant.1 ∙ sym c.requires.1
-
-pub returns : goal.returns
-returns c = let inv = c.loop-c.invariant in
-    let e : c.loop-c.c ≡ 32 = omega (arith, inv.0) in
-    inv.2 ∙ ap (λ (k : ℕ). over (list_of (codeword c.args.entries.now) k 0) c.args.block.now) e
+    (simp length-set inv.0, words_more _ _ _ _ _ inv.1 (omega (arith, c.requires.1)) (word_at _ _ c.requires.0.is _ _ c.loop-c-test.true))

@@ -1,5 +1,4 @@
 use mathlib.Core.Path.{◌≡◌}
-use Prim.Native.Nat.{◌-◌, ◌≤◌}
 use lib.ListN.{length}
 use Rattle.promise.specs.Over.{over}
 use Rattle.lists.specs.Numbered.{list_of}
@@ -7,7 +6,4 @@ use Rattle.segment_rules.specs.Packed.{codeword, packed_size}
 use Rattle.segment_pack.proofs.put_codes.Given as goal
 
 abbrev pub invariant-loop-c : goal.invariant-loop-c
-invariant-loop-c l = (l.c ≤ 32) × (length l.block ≡ packed_size) × (l.block ≡ over (list_of (codeword l.entries) l.c 0) l.initial.block)
-
-abbrev pub decreases-loop-c : goal.decreases-loop-c
-decreases-loop-c l = 32 - l.c
+invariant-loop-c l = (length l.block ≡ packed_size) × (l.block ≡ over (list_of (codeword l.entries) l.c 0) l.initial.block)

@@ -1,10 +1,7 @@
 use mathlib.Core.Path.{◌≡◌}
-use Prim.Native.Nat.{◌-◌, ◌*◌, ◌≤◌}
+use Prim.Native.Nat.{◌*◌}
 use Rattle.segment_pack.specs.Needs.{packed_to}
 use Rattle.segment_pack.proofs.put_entries.Given as goal
 
 abbrev pub invariant-loop-c : goal.invariant-loop-c
-invariant-loop-c l = (l.c ≤ 32) × (l.block ≡ packed_to l.entries (l.c * 8))
-
-abbrev pub decreases-loop-c : goal.decreases-loop-c
-decreases-loop-c l = 32 - l.c
+invariant-loop-c l = l.block ≡ packed_to l.entries (l.c * 8)

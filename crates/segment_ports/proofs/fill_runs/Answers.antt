@@ -1,5 +1,4 @@
 use mathlib.Core.Path.{refl}
-use Prim.Native.Nat.{◌-◌}
 use native.Mathlib.Omega.{arith}
 use Rattle.segment_ports.proofs.Fills.{filled_none, block_lt, from_block, goes_on_lem, filled_more, filled_length, filled_all}
 use Rattle.segment_ports.proofs.fill_runs.Goals as goal

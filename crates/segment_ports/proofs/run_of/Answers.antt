@@ -1,5 +1,5 @@
 use mathlib.Core.Path.{refl, sym, ◌∙◌}
-use Prim.Native.Nat.{◌-◌, ◌<◌}
+use Prim.Native.Nat.{◌<◌}
 use native.Mathlib.Omega.{arith}
 use Rattle.segment_ports.specs.RunSearch.{run_end}
 use Rattle.segment_ports.proofs.Runs.{ends_before, run_of_here, run_of_passed}

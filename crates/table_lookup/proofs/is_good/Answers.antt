@@ -8,5 +8,8 @@ returns-then-capacity_of-n c = good_past 32 _ _ _ (omega arith)
 pub returns-then-n-eq0 : goal.returns-then-n-eq0
 returns-then-n-eq0 c = good_none 32 _ _ _ (omega arith) c.if-n-eq0.true
 
-pub returns : goal.returns
-returns c = good_seen 32 _ _ _ (omega arith) c.if-n-eq0.false _ c.seen_at-seen.ensures
+pub returns-in-Some : goal.returns-in-Some
+returns-in-Some c = good_seen 32 _ _ _ (omega arith) c.if-n-eq0.false _ c.in-Some.ensures
+
+pub returns-in-None : goal.returns-in-None
+returns-in-None c = good_seen 32 _ _ _ (omega arith) c.if-n-eq0.false _ c.in-None.ensures

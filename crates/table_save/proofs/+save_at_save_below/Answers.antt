@@ -1,4 +1,4 @@
-use mathlib.Core.Path.{ap, ◌∙◌}
+use mathlib.Core.Path.{ap}
 use mathlib.Core.Bool.{true, false}
 use native.Mathlib.Omega.{arith}
 use lib.ListN.{length}
@@ -12,9 +12,6 @@ save_at-whole_row-x-requires t c = ready_row (row_at c.args.rows.now) (row_count
 
 pub save_at-overflow_add-result : goal.save_at-overflow_add-result
 save_at-overflow_add-result t c = omega (arith, size_last (row_at c.args.rows.now) c.args.left c.args.row c.if-left-eq0.true, c.requires.1)
-
-pub save_at-shape_of-list-then-left-eq0 : goal.save_at-shape_of-list-then-left-eq0
-save_at-shape_of-list-then-left-eq0 t c = c.store_route.auto.list
 
 pub save_at-returns-then-left-eq0 : goal.save_at-returns-then-left-eq0
 save_at-returns-then-left-eq0 t c = let last = size_last (row_at c.args.rows.now) c.args.left c.args.row c.if-left-eq0.true in
@@ -63,9 +60,6 @@ save_at-save_below-end-requires t c = let ne = c.if-left-eq0.false in
       ),
     )
 
-pub save_at-shape_of-list : goal.save_at-shape_of-list
-save_at-shape_of-list t c = c.insert_route.auto.list ∙ c.save_below-end.auto.list ∙ c.save_below-middle.auto.list
-
 pub save_at-returns : goal.save_at-returns
 save_at-returns t c = let ne = c.if-left-eq0.false in
     let M = row_at c.args.rows.now in
@@ -83,9 +77,6 @@ save_below-save_at-requires t c = let ne = c.if-child-eq0.false in
         omega (arith, c.requires.1, ap length (below_is M c.args.left c.args.child ne)),
       ),
     )
-
-pub save_below-shape_of-list : goal.save_below-shape_of-list
-save_below-shape_of-list t c = c.save_at.auto.list
 
 pub save_below-returns : goal.save_below-returns
 save_below-returns t c = wrote_below (row_at c.args.rows.now) c.args.left c.args.child c.args.at _ _ _ c.if-child-eq0.false c.save_at.ensures

@@ -1,21 +1,24 @@
+use mathlib.Core.Path.{◌∙◌}
+use Rattle.std.proofs.lemmas.Result.{err_from_is_err_and}
+use Rattle.refusals.proofs.Numbers.{number_ne0}
 use Rattle.routes.specs.Routes.{route}
+use Rattle.table_lookup.proofs.Checked.{checked_good, checked_wrong}
 use Rattle.table_update.proofs.Answers.{announce_fault, announce_good, announce_wrong}
-use Rattle.table_rows.specs.Words.{five_words}
+use Rattle.table_rows.specs.Words.{five_words, capacity, row_at}
 use Rattle.table_update.proofs.announce.Goals as goal
 
-pub returns-then-fault-ne0 : goal.returns-then-fault-ne0
-returns-then-fault-ne0 c = let d = c.args in
-    let f = c.route_fault-fault in
-    announce_fault five_words 32 d.rows.now d.n (route d.value d.len d.port) f.result f.ensures c.keeping.result c.if-fault-ne0.true c.keeping.ensures
+pub returns-in_err-route_fault : goal.returns-in_err-route_fault
+returns-in_err-route_fault c = let d = c.args in
+    let p = err_from_is_err_and c.from_residual.result c.from_residual.ensures.1 in
+    rw (p.1, p.2) (announce_fault five_words 32 d.rows.now d.n (route d.value d.len d.port) _ c.in_err-route_fault.ensures (number_ne0 _))
 
-pub returns-then-is_good : goal.returns-then-is_good
-returns-then-is_good c = let d = c.args in
-    let f = c.route_fault-fault in
-    let g = c.is_good in
-    announce_good five_words 32 d.rows.now d.n (route d.value d.len d.port) f.result f.ensures c.if-fault-ne0.false g.result g.ensures c.if-is_good.true _ c.announce_in.ensures
+pub returns-in_err-check : goal.returns-in_err-check
+returns-in_err-check c = let d = c.args in
+    let p = err_from_is_err_and c.from_residual-in_err-check.result c.from_residual-in_err-check.ensures.1 in
+    let wrong = checked_wrong 32 (capacity d.rows.now) (row_at d.rows.now) d.n _ _ c.in_err-check.ensures in
+    rw (p.1, p.2) (announce_wrong five_words 32 d.rows.now d.n (route d.value d.len d.port) c.in_ok-route_fault.ensures _ _ wrong)
 
 pub returns : goal.returns
 returns c = let d = c.args in
-    let f = c.route_fault-fault in
-    let g = c.is_good in
-    announce_wrong five_words 32 d.rows.now d.n (route d.value d.len d.port) f.result f.ensures c.if-fault-ne0.false g.result g.ensures c.if-is_good.false c.keeping-2.result c.keeping-2.ensures
+    c.announce_in.ensures
+    ∙ announce_good five_words 32 d.rows.now d.n (route d.value d.len d.port) c.in_ok-route_fault.ensures (checked_good 32 (capacity d.rows.now) (row_at d.rows.now) d.n c.in_ok-check.ensures)

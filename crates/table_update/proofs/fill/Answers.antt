@@ -1,7 +1,7 @@
-use borrow.Author.Rules.{rules}
-use mathlib.Core.Path.{refl, sym, ap, ◌∙◌}
+use mathlib.Core.Path.{sym, ap, ◌∙◌}
 use Prim.Native.Nat.{◌+◌, ◌-◌}
 use native.Mathlib.Nat.{sub-zero}
+use native.Mathlib.Omega.{arith}
 use Rattle.routes.specs.Routes.{route_at}
 use Rattle.table_rows.specs.Words.{five_words}
 use Rattle.table_update.specs.Calls.{announced_words, built_from}
@@ -9,23 +9,16 @@ use Rattle.table_update.proofs.FillLoop.{built_turn, built_all}
 use Rattle.table_update.proofs.fill.Goals as goal
 
 pub loop-i-init : goal.loop-i-init
-loop-i-init c = (search rules, rw (sub-zero _), refl)
+loop-i-init c = rw (sub-zero _)
 
 pub loop-i-preserved : goal.loop-i-preserved
 loop-i-preserved c = let l = c.loop-i in
     let d = c.args in
-    let q = c.route_at in
-    let p = c.put_route in (
-      search rules,
-      ap (built_from five_words 32 (route_at d.list.now) (d.k - (l.i + 1)) (l.i + 1)) (p.ensures ∙ ap (announced_words five_words 32 l.rows l.i) q.ensures)
-          ∙ sym (built_turn five_words 32 (route_at d.list.now) l.rows d.k l.i c.loop-i-test.true) ∙ l.invariant.1,
-      p.auto.rows ∙ l.invariant.2,
-    )
-
-pub shape_of-rows : goal.shape_of-rows
-shape_of-rows c = c.loop-i.invariant.2
+    let p = c.put_route in
+    ap (built_from five_words 32 (route_at d.list.now) (d.k - (l.i + 1)) (l.i + 1)) (p.ensures ∙ ap (announced_words five_words 32 l.rows l.i) c.route_at.ensures)
+    ∙ sym (built_turn five_words 32 (route_at d.list.now) l.rows d.k l.i (omega arith)) ∙ l.invariant
 
 pub returns : goal.returns
 returns c = let l = c.loop-i in
     let d = c.args in
-    built_all five_words 32 (route_at d.list.now) l.rows d.k l.i c.loop-i-test.false ∙ l.invariant.1
+    built_all five_words 32 (route_at d.list.now) l.rows d.k l.i (omega arith) ∙ l.invariant

@@ -1,25 +1,22 @@
-use Rattle.std.proofs.Common.{ne_eqb}
+use mathlib.Core.Path.{ap, ◌∙◌}
+use Rattle.std.proofs.Common.{Err, rules, tests}
+use Rattle.promise.specs.Over.{outcome}
+use Rattle.refusals.specs.Refusals.{answered}
 use Rattle.image_lookup.specs.Many.{many_words}
 use Rattle.image_lookup.proofs.many.lookup_many.Goals as goal
 
-pub returns-then-stride-eq1 : goal.returns-then-stride-eq1
+pub returns-in-1 : goal.returns-in-1
 unfolding many_words
-returns-then-stride-eq1 c = rw c.if-stride-eq1.true c.fill.ensures
+returns-in-1 c = rw c.in-1.is c.fill.ensures
 
-pub returns-then-stride-eq2 : goal.returns-then-stride-eq2
+pub returns-in-2 : goal.returns-in-2
 unfolding many_words
-returns-then-stride-eq2 c = rw c.if-stride-eq2.true c.fill-then-stride-eq2.ensures
+returns-in-2 c = rw c.in-2.is c.fill-in-2.ensures
 
-pub returns-then-stride-eq4 : goal.returns-then-stride-eq4
+pub returns-in-4 : goal.returns-in-4
 unfolding many_words
-returns-then-stride-eq4 c = rw c.if-stride-eq4.true c.fill-then-stride-eq4.ensures
+returns-in-4 c = rw c.in-4.is c.fill-in-4.ensures
 
-pub returns : goal.returns
+pub returns-in_default : goal.returns-in_default
 unfolding many_words
-returns c = simp (
-  ne_eqb _ _ c.if-stride-eq1.false,
-  ne_eqb _ _ c.if-stride-eq2.false,
-  ne_eqb _ _ c.if-stride-eq4.false,
-  c.refused.ensures,
-  c.from.ensures,
-)
+returns-in_default c = ap (λ r. outcome (answered (Err r)) c.args.out.now) c.at.ensures ∙ search (tests, rules)

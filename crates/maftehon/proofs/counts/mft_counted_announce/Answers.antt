@@ -1,5 +1,7 @@
+use mathlib.Core.Path.{ap, ◌∙◌}
+use Rattle.refusals.specs.Reply.{counted}
 use Rattle.maftehon.proofs.Reply.{replied_book_is}
 use Rattle.maftehon.proofs.counts.mft_counted_announce.Goals as goal
 
 pub returns : goal.returns
-returns c = replied_book_is _ _ _ _ _ c.announce.ensures c.counted.ensures
+returns c = replied_book_is _ _ _ _ _ c.announce.ensures (c.counted.ensures ∙ ap counted c.updated.ensures)

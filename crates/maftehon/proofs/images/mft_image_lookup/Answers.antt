@@ -3,4 +3,4 @@ use Rattle.refusals.specs.Reply.{looked}
 use Rattle.maftehon.proofs.images.mft_image_lookup.Goals as goal
 
 pub returns : goal.returns
-returns c = c.looked.ensures ∙ ap looked c.lookup.ensures
+returns c = (c.looked.ensures ∙ ap looked c.from.ensures) ∙ ap looked c.lookup.ensures

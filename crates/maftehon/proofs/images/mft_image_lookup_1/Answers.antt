@@ -3,4 +3,4 @@ use Rattle.refusals.specs.Reply.{looked}
 use Rattle.maftehon.proofs.images.mft_image_lookup_1.Goals as goal
 
 pub returns : goal.returns
-returns c = c.looked.ensures ∙ ap looked c.lookup_1.ensures
+returns c = (c.looked.ensures ∙ ap looked c.from.ensures) ∙ ap looked c.lookup_1.ensures

@@ -1,26 +1,22 @@
 use native.Mathlib.Omega.{arith}
 use borrow.Author.Rules.{rules}
 use mathlib.Core.Path.{refl, ap}
-use Prim.Native.Nat.{◌-◌}
 use Rattle.routes.specs.Routes.{route_at}
 use Rattle.routes.specs.declared.Route.{Route}
 use Rattle.runs_write.proofs.Turns.{sweeping_none, start_small, room_turn, turn_deep, turn_close, turn_room, turn_open, room_end, turn_end}
 use Rattle.runs_write.proofs.sweep.sweep.Goals as goal
 
 pub loop-start-init : goal.loop-start-init
-loop-start-init c = sweeping_none 32 (route_at c.args.list.now) c.args.n c.args.runs.now c.args.write _ _ c.requires.valid refl refl refl refl c.start_of-start.ensures
+loop-start-init c = sweeping_none 32 (route_at c.args.list.now) c.args.n c.args.runs.now c.args.write _ c.requires.valid refl refl c.start_of-start.ensures
 
-pub offset_bounds-ends-depth : goal.offset_bounds-ends-depth
-offset_bounds-ends-depth c = omega (arith, c.loop-start.invariant.opened.deep)
+pub offset_bounds-stack-depth : goal.offset_bounds-stack-depth
+offset_bounds-stack-depth c = omega (arith, c.loop-start.invariant.opened.deep)
 
-pub bounds-ends-depth : goal.bounds-ends-depth
-bounds-ends-depth c = omega (arith, c.loop-start.invariant.opened.deep)
+pub bounds-stack-depth : goal.bounds-stack-depth
+bounds-stack-depth c = omega (arith, c.loop-start.invariant.opened.deep)
 
-pub offset_bounds-ports-depth : goal.offset_bounds-ports-depth
-offset_bounds-ports-depth c = omega (arith, c.loop-start.invariant.opened.deep)
-
-pub bounds-ports-depth : goal.bounds-ports-depth
-bounds-ports-depth c = omega (arith, c.loop-start.invariant.opened.deep)
+pub bounds-stack-depth-in-loop-start : goal.bounds-stack-depth-in-loop-start
+bounds-stack-depth-in-loop-start c = omega (arith, c.loop-start.invariant.opened.deep)
 
 -- the innermost open route ends before the next begins
 pub overflow_add-stop : goal.overflow_add-stop
@@ -45,9 +41,6 @@ turn_to-last-requires c = room_turn 32 (route_at c.args.list.now) c.args.n c.arg
 pub end_run-requires : goal.end_run-requires
 end_run-requires c = room_end 32 (route_at c.args.list.now) c.args.n c.args.runs.now c.args.write c.loop-start.invariant c.requires.room c.if-stop-start.false c.if-n-i.true c.turn_to-last.ensures (search rules)
 
-pub shape_of-runs-then-n-i : goal.shape_of-runs-then-n-i
-shape_of-runs-then-n-i c = omega (arith, c.loop-start.invariant.counted.same)
-
 pub returns-then-n-i : goal.returns-then-n-i
 returns-then-n-i c = turn_end 32 (route_at c.args.list.now) c.args.n c.args.runs.now c.args.write c.loop-start.invariant c.requires.room c.if-stop-start.false c.if-n-i.true c.turn_to-last.ensures (search rules) c.end_run.ensures
 
@@ -58,17 +51,11 @@ go_on-run-requires-in-loop-start c = room_turn 32 (route_at c.args.list.now) c.a
 pub overflow_add-depth : goal.overflow_add-depth
 overflow_add-depth c = omega (arith, c.loop-start.invariant.opened.deep)
 
-pub offset_bounds-ends-depth-in-loop-start : goal.offset_bounds-ends-depth-in-loop-start
-offset_bounds-ends-depth-in-loop-start c = omega (arith, c.loop-start.invariant.opened.deep)
+pub offset_bounds-stack-depth-in-loop-start : goal.offset_bounds-stack-depth-in-loop-start
+offset_bounds-stack-depth-in-loop-start c = omega (arith, c.loop-start.invariant.opened.deep)
 
-pub bounds-ends-depth-in-loop-start : goal.bounds-ends-depth-in-loop-start
-bounds-ends-depth-in-loop-start c = omega (arith, turn_room 32 (route_at c.args.list.now) c.args.n c.args.runs.now c.args.write c.loop-start.invariant c.requires.room c.if-stop-start.false c.if-n-i.false)
-
-pub offset_bounds-ports-depth-in-loop-start : goal.offset_bounds-ports-depth-in-loop-start
-offset_bounds-ports-depth-in-loop-start c = offset_bounds-ends-depth-in-loop-start c
-
-pub bounds-ports-depth-in-loop-start : goal.bounds-ports-depth-in-loop-start
-bounds-ports-depth-in-loop-start c = bounds-ends-depth-in-loop-start c
+pub bounds-stack-depth-in-loop-start-2 : goal.bounds-stack-depth-in-loop-start-2
+bounds-stack-depth-in-loop-start-2 c = omega (arith, turn_room 32 (route_at c.args.list.now) c.args.n c.args.runs.now c.args.write c.loop-start.invariant c.requires.room c.if-stop-start.false c.if-n-i.false)
 
 pub loop-start-smaller : goal.loop-start-smaller
 loop-start-smaller c = omega arith

@@ -16,4 +16,4 @@ walk_after-after-requires c = let few = walked_few _ _ _ _ _ c.requires.ready c.
     (x_low _ _ _ _ _ _ c.requires, omega (arith, few.0), omega (arith, few.1))
 
 pub returns : goal.returns
-returns c = segment_met _ _ _ _ _ _ c.requires _ _ (ported _ _ _ _ _ _ _ (blocks_of _ _ _ _ _ _ c.requires) c.fill_ports-run.ensures) _ _ c.name_lasts-last.ensures _ c.is_packed-packed.ensures _ refl refl c.walk_after-after.ensures
+returns c = segment_met _ _ _ _ _ _ c.requires _ _ (ported _ _ _ _ _ _ _ (blocks_of _ _ _ _ _ _ c.requires) c.fill_ports-run.ensures) _ _ c.name_lasts-last.ensures _ c.is_packed-packed.ensures _ refl refl refl refl c.walk_after-after.ensures

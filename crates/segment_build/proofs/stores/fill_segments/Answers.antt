@@ -1,41 +1,22 @@
 use mathlib.Core.Path.{refl}
-use Prim.Native.Nat.{◌-◌}
 use native.Mathlib.Omega.{arith}
-use Rattle.segment_build.proofs.Walking.{walked_none, meets, goes_by, walked_end}
-use Rattle.segment_build.proofs.Storing.{stored_none, segment_room, stored_more, stored_all, length_first_stored, length_packed_stored, length_plain_stored}
+use Rattle.segment_build.proofs.Walking.{walked_none, next_walked, next_passes}
+use Rattle.segment_build.proofs.Storing.{stored_none, segment_room, stored_more, stored_all}
 use Rattle.segment_build.proofs.stores.fill_segments.Goals as goal
 
-pub loop-i-init : goal.loop-i-init
-loop-i-init c = (omega arith, walked_none _ _ _ _ c.requires.ready.valid refl, stored_none _ _ _ _ _ _ c.requires)
-
-pub segment_at-s-requires : goal.segment_at-s-requires
-segment_at-s-requires c = meets _ _ _ _ _ _ c.route_at-route.ensures _ c.begins_new.ensures c.requires.ready c.loop-i.invariant.1 c.loop-i-test.true c.if-begins_new.true _ c.block_of-x.ensures.0
+pub loop-s-init : goal.loop-s-init
+loop-s-init c = (omega arith, walked_none _ _ _ _ c.requires.ready.valid refl, stored_none _ _ _ _ _ _ c.requires)
 
 pub put_segment-requires : goal.put_segment-requires
-put_segment-requires c = let met = meets _ _ _ _ _ _ c.route_at-route.ensures _ c.begins_new.ensures c.requires.ready c.loop-i.invariant.1 c.loop-i-test.true c.if-begins_new.true _ c.block_of-x.ensures.0 in
-    segment_room _ _ _ _ _ _ c.requires _ _ _ met _ _ _ c.loop-i.invariant.2 _ c.segment_at-s.ensures
+put_segment-requires c = let next = c.in-Some.ensures in
+    segment_room _ _ _ _ _ _ c.requires _ _ _ next.met _ _ _ c.loop-s.invariant.2 _ next.is
 
-pub overflow_add-i : goal.overflow_add-i
-overflow_add-i c = omega (arith, c.loop-i-test.true, c.requires.ready.valid.few)
-
-pub loop-i-preserved-then-begins_new : goal.loop-i-preserved-then-begins_new
-loop-i-preserved-then-begins_new c = let met = meets _ _ _ _ _ _ c.route_at-route.ensures _ c.begins_new.ensures c.requires.ready c.loop-i.invariant.1 c.loop-i-test.true c.if-begins_new.true _ c.block_of-x.ensures.0 in (
-  omega arith,
-  c.segment_at-s.ensures.after_is,
-  stored_more _ _ _ _ _ _ c.requires _ _ _ met _ _ _ c.loop-i.invariant.2 _ c.segment_at-s.ensures _ _ _ c.put_segment.ensures,
+pub loop-s-preserved : goal.loop-s-preserved
+loop-s-preserved c = let next = c.in-Some.ensures in (
+  (next_passes _ _ _ _ _ _ next).1,
+  next_walked _ _ _ _ _ _ next,
+  stored_more _ _ _ _ _ _ c.requires _ _ _ next.met _ _ _ c.loop-s.invariant.2 _ next.is _ _ _ c.put_segment.ensures,
 )
 
-pub loop-i-preserved : goal.loop-i-preserved
-loop-i-preserved c = (omega arith, goes_by _ _ _ _ _ _ c.route_at-route.ensures _ c.begins_new.ensures c.requires.ready c.loop-i.invariant.1 c.if-begins_new.false, c.loop-i.invariant.2)
-
-pub shape_of-first : goal.shape_of-first
-shape_of-first c = length_first_stored _ _ _ _ _ _ c.requires _ c.loop-i.invariant.1.low _ _ _ c.loop-i.invariant.2
-
-pub shape_of-packed : goal.shape_of-packed
-shape_of-packed c = length_packed_stored _ _ _ _ _ _ c.requires _ c.loop-i.invariant.1.low _ _ _ c.loop-i.invariant.2
-
-pub shape_of-plain : goal.shape_of-plain
-shape_of-plain c = length_plain_stored _ _ _ _ _ _ c.requires _ c.loop-i.invariant.1.low _ _ _ c.loop-i.invariant.2
-
 pub returns : goal.returns
-returns c = stored_all _ _ _ _ _ _ c.requires _ (walked_end _ _ _ _ _ c.loop-i.invariant.1 c.loop-i.invariant.0 c.loop-i-test.false) _ _ _ c.loop-i.invariant.2
+returns c = stored_all _ _ _ _ _ _ c.requires _ c.in_default.ensures _ _ _ c.loop-s.invariant.2

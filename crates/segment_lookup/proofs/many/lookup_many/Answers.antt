@@ -1,35 +1,6 @@
-use mathlib.Core.Path.{refl, sym, ap, ◌∙◌}
-use Prim.Native.Nat.{◌-◌}
-use native.Mathlib.Omega.{arith}
-use lib.ListN.{get_or}
-use Rattle.promise.specs.Over.{outcome}
-use Rattle.refusals.specs.declared.Answer.{Answer}
 use Rattle.segment_rules.specs.Lookup.{lookup_in}
-use Rattle.segment_rules.proofs.Lent.{ports_le}
-use Rattle.many_rules.proofs.Many.{short_is_refused}
-use Rattle.many_rules.proofs.Filling.{filling_none, filling_more, filling_all}
 use Rattle.segment_lookup.proofs.many.lookup_many.Goals as goal
 
-pub returns-then-out-addresses : goal.returns-then-out-addresses
-returns-then-out-addresses c = let look = lookup_in c.args.first.now c.args.packed.now c.args.plain.now c.args.last.now in
-    ap (λ (x : Answer). outcome x c.args.out.now) c.refused.ensures
-    ∙ sym (short_is_refused look c.args.addresses.now c.args.out.now c.if-out-addresses.true)
-
-pub loop-i-init : goal.loop-i-init
-loop-i-init c = filling_none (lookup_in c.args.first.now c.args.packed.now c.args.plain.now c.args.last.now) c.args.addresses.now c.args.out.now
-
-pub loop-i-preserved : goal.loop-i-preserved
-loop-i-preserved c = let l = c.loop-i in
-    let look = lookup_in c.args.first.now c.args.packed.now c.args.plain.now c.args.last.now in
-    let xs = c.args.addresses.now in
-    filling_more look xs c.args.out.now l.out l.some l.i (look (get_or xs l.i 0)) c.element_at-element.result
-    c.if-out-addresses.false l.invariant c.loop-i-test.true refl
-    (omega (arith, ports_le c.args.first.now c.args.packed.now c.args.plain.now c.args.last.now (get_or xs l.i 0)))
-    c.element_at-element.ensures
-
 pub returns : goal.returns
-returns c = let l = c.loop-i in
-    let look = lookup_in c.args.first.now c.args.packed.now c.args.plain.now c.args.last.now in
-    ap (λ (x : Answer). outcome x l.out) c.told.ensures
-    ∙ filling_all look c.args.addresses.now c.args.out.now l.out l.some l.i c.if-out-addresses.false l.invariant
-    c.loop-i-test.false
+returns c = let a = c.args in
+    c.lookup_many.ensures (lookup_in a.first.now a.packed.now a.plain.now a.last.now) (λ address e small post. post)

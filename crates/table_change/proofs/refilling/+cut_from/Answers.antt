@@ -1,5 +1,4 @@
 use borrow.Author.Rules.{rules}
-use mathlib.Core.Path.{◌∙◌}
 use Rattle.table_rows.specs.Words.{five_words}
 use Rattle.table_change.proofs.Withdraw.{cut_none, cut_last, cut_on_lem}
 use Rattle.table_change.proofs.refilling.+cut_from.Goals as goal
@@ -7,9 +6,6 @@ use Rattle.table_change.proofs.refilling.+cut_from.Goals as goal
 pub returns-then-left-eq0 : goal.returns-then-left-eq0
 returns-then-left-eq0 t c = let d = c.args in
     cut_none five_words 32 d.rows.now d.left d.row d.q c.if-left-eq0.true
-
-pub shape_of-rows-then-is_last : goal.shape_of-rows-then-is_last
-shape_of-rows-then-is_last t c = c.store_row.auto.rows
 
 pub returns-then-is_last : goal.returns-then-is_last
 returns-then-is_last t c = let d = c.args in
@@ -21,9 +17,6 @@ pub cut_from-requires : goal.cut_from-requires
 cut_from-requires t c = let p = c.requires in
     let ne = c.if-left-eq0.false in
     (search rules, search rules)
-
-pub shape_of-rows : goal.shape_of-rows
-shape_of-rows t c = c.cut_from.auto.rows ∙ c.store_row-2.auto.rows
 
 pub returns : goal.returns
 returns t c = let d = c.args in

@@ -1,12 +1,7 @@
-use Prim.Native.Nat.{◌≤◌, ◌-◌}
 use mathlib.Core.Path.{◌≡◌}
-use Prim.Native.Nat.{◌≤◌}
 use Rattle.table_rows.specs.Words.{five_words}
 use Rattle.table_rules.specs.Announce.{held_at}
 use Rattle.table_change.proofs.sinking.held_from_root.Given as goal
 
 abbrev pub invariant-loop-left : goal.invariant-loop-left
-invariant-loop-left l = (l.left ≤ 32) × (held_at 32 (five_words.get l.rows) l.left l.row l.q ≡ held_at 32 (five_words.get l.rows) 32 0 l.q)
-
-abbrev pub decreases-loop-left : goal.decreases-loop-left
-decreases-loop-left l = l.left
+invariant-loop-left l = held_at 32 (five_words.get l.rows) l.left l.row l.q ≡ held_at 32 (five_words.get l.rows) 32 0 l.q

@@ -7,43 +7,28 @@ use Rattle.table_change.proofs.Announce.{sinking_same, sinking_last, sinking_lea
 use Rattle.table_change.proofs.sinking.sink_from_root.Goals as goal
 
 pub loop-left-init : goal.loop-left-init
-loop-left-init c = (record { bits = search rules; rest = refl }, refl)
-
-pub shape_of-rows-then-is_same : goal.shape_of-rows-then-is_same
-shape_of-rows-then-is_same c = let l = c.loop-left in
-    c.store_row.auto.rows ∙ l.invariant.1
+loop-left-init c = refl
 
 -- the prefix is at the row that the loop has come to
 pub returns-then-is_same : goal.returns-then-is_same
 returns-then-is_same c = let l = c.loop-left in
-    sinking_same five_words 32 _ l.rows _ _ l.q l.left l.row l.invariant.0 _ c.row_at-x.ensures _ c.is_same.ensures c.if-is_same.true _
+    sinking_same five_words 32 _ l.rows _ _ l.q l.left l.row l.invariant _ c.row_at-x.ensures _ c.is_same.ensures c.if-is_same.true _
     (c.store_row.ensures ∙ ap (λ (z : Row). five_words.put l.rows l.row z) c.with_route.ensures)
-
-pub shape_of-rows-then-plan-eq0 : goal.shape_of-rows-then-plan-eq0
-shape_of-rows-then-plan-eq0 c = let l = c.loop-left in
-    c.add_leaf.auto.rows ∙ l.invariant.1
 
 pub returns-then-plan-eq0 : goal.returns-then-plan-eq0
 returns-then-plan-eq0 c = let l = c.loop-left in
-    sinking_leaf five_words 32 _ l.rows _ _ l.q l.left l.row l.invariant.0 c.row_at-x.result c.row_at-x.ensures c.is_same.result c.is_same.ensures (search rules) c.if-is_same.false c.plan_for-plan.result c.plan_for-plan.ensures c.if-plan-eq0.true _ c.add_leaf.ensures
+    sinking_leaf five_words 32 _ l.rows _ _ l.q l.left l.row l.invariant c.row_at-x.result c.row_at-x.ensures c.is_same.result c.is_same.ensures (search rules) c.if-is_same.false c.plan_for-plan.result c.plan_for-plan.ensures c.if-plan-eq0.true _ c.add_leaf.ensures
 
 pub loop-left-preserved : goal.loop-left-preserved
 loop-left-preserved c = let l = c.loop-left in
-    (sinking_more five_words 32 _ l.rows _ _ l.q l.left l.row l.invariant.0 c.row_at-x.result c.row_at-x.ensures c.is_same.result c.is_same.ensures (search rules) c.if-is_same.false c.plan_for-plan.result c.plan_for-plan.ensures c.if-plan-eq0.false _ c.store_row-in-loop-left.ensures, c.store_row-in-loop-left.auto.rows ∙ l.invariant.1)
-
-pub shape_of-rows-then-is_same-2 : goal.shape_of-rows-then-is_same-2
-shape_of-rows-then-is_same-2 c = let l = c.loop-left in
-    c.store_row-then-is_same-2.auto.rows ∙ l.invariant.1
+    sinking_more five_words 32 _ l.rows _ _ l.q l.left l.row l.invariant c.row_at-x.result c.row_at-x.ensures c.is_same.result c.is_same.ensures (search rules) c.if-is_same.false c.plan_for-plan.result c.plan_for-plan.ensures c.if-plan-eq0.false _ c.store_row-in-loop-left.ensures
 
 -- the prefix is at the row that the loop has come to
 pub returns-then-is_same-2 : goal.returns-then-is_same-2
 returns-then-is_same-2 c = let l = c.loop-left in
-    sinking_same five_words 32 _ l.rows _ _ l.q l.left l.row l.invariant.0 _ c.row_at-x-2.ensures _ c.is_same-2.ensures c.if-is_same-2.true _
+    sinking_same five_words 32 _ l.rows _ _ l.q l.left l.row l.invariant _ c.row_at-x-2.ensures _ c.is_same-2.ensures c.if-is_same-2.true _
     (c.store_row-then-is_same-2.ensures ∙ ap (λ (z : Row). five_words.put l.rows l.row z) c.with_route-then-is_same-2.ensures)
-
-pub shape_of-rows-else-is_same-2 : goal.shape_of-rows-else-is_same-2
-shape_of-rows-else-is_same-2 c = c.loop-left.invariant.1
 
 pub returns-else-is_same-2 : goal.returns-else-is_same-2
 returns-else-is_same-2 c = let l = c.loop-left in
-    sinking_last five_words 32 _ l.rows _ _ l.q l.left l.row l.invariant.0 c.row_at-x-2.result c.row_at-x-2.ensures c.is_same-2.result c.is_same-2.ensures (omega arith) c.if-is_same-2.false
+    sinking_last five_words 32 _ l.rows _ _ l.q l.left l.row l.invariant c.row_at-x-2.result c.row_at-x-2.ensures c.is_same-2.result c.is_same-2.ensures (omega arith) c.if-is_same-2.false

@@ -1,11 +1,6 @@
-use mathlib.Core.Path.{◌≡◌}
-use lib.ListN.{length}
 use Rattle.table_rows.specs.Words.{five_words}
 use Rattle.table_change.proofs.Announce.{Sinking}
 use Rattle.table_change.proofs.sinking.sink_from_root.Given as goal
 
 abbrev pub invariant-loop-left : goal.invariant-loop-left
-invariant-loop-left l = Sinking five_words 32 l.initial.rows l.rows l.n l.initial.q l.q l.left l.row × (length l.rows ≡ length l.initial.rows)
-
-abbrev pub decreases-loop-left : goal.decreases-loop-left
-decreases-loop-left l = l.left
+invariant-loop-left l = Sinking five_words 32 l.initial.rows l.rows l.n l.initial.q l.q l.left l.row

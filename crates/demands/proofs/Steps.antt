@@ -14,7 +14,7 @@ use Rattle.table_rules.specs.Announce.{is_same}
 use Rattle.table_rules.specs.Check.{no_rows, seen_join, path_on, seen_at}
 use Rattle.table_rules.specs.Withdraw.{or_route, first_route, best_at, best_child, is_last, cut, relink}
 use Rattle.routes.specs.Routes.{no_route}
-use Rattle.table_rules.specs.declared.Seen.{Seen}
+use Rattle.table_rules.specs.Check.{Seen}
 
 -- the best of a subtree, and what the check has seen of it
 module _ (w : ℕ) (M : Mem) where

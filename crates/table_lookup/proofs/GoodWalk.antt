@@ -16,7 +16,7 @@ use Rattle.table_rules.specs.Rows.{Mem, child}
 use Rattle.table_rules.specs.Lookup.{wrong_row}
 use Rattle.table_rules.specs.Check.{seen, no_rows, wrong_rows, first_seen, seen_join, path_on, seen_at, is_good}
 use Rattle.table_rules.specs.declared.Row.{Row}
-use Rattle.table_rules.specs.declared.Seen.{Seen}
+use Rattle.table_rules.specs.Check.{Seen}
 use Rattle.table_rules.specs.Walk.{last_seen, seen_below}
 use Rattle.table_rules.proofs.Walk.{beyond, seen_at_by}
 

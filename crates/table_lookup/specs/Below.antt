@@ -2,7 +2,7 @@
 -- Assumes nothing.
 use Rattle.std.specs.Prelude.{Option, Some, None}
 use Rattle.table_rules.specs.Check.{seen, wrong_rows}
-use Rattle.table_rules.specs.declared.Seen.{Seen}
+use Rattle.table_rules.specs.Check.{Seen}
 use Rattle.table_lookup.specs.declared.good.Below.{Below}
 
 abbrev pub seen_of : Below → Seen

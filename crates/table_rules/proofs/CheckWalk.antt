@@ -16,7 +16,7 @@ use Rattle.table_rules.specs.Lookup.{wrong_row}
 use Rattle.bits.specs.Prefix.{ahead_of}
 use Rattle.table_rules.specs.Check.{seen, no_rows, wrong_rows, first_seen, seen_over, seen_join, path_on, seen_at}
 use Rattle.table_rules.specs.declared.Row.{Row}
-use Rattle.table_rules.specs.declared.Seen.{Seen}
+use Rattle.table_rules.specs.Check.{Seen}
 use Rattle.table_rules.proofs.Paths.{At, at_ahead, at_priority}
 use Rattle.table_rules.proofs.Holds.{row_at, Below, below_child}
 use Rattle.table_rules.specs.Walk.{seen_below}

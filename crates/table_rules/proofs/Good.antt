@@ -18,7 +18,7 @@ use Rattle.table_rules.specs.Rows.{Mem}
 use Rattle.table_rules.specs.Holds.{Holds, times, Placed, HeldIn, GoodFor, GoodOrder}
 use Rattle.table_rules.specs.Check.{seen_at, is_good}
 use Rattle.table_rules.specs.Theorems.{CheckIsGood, GoodUnique}
-use Rattle.table_rules.specs.declared.Seen.{Seen}
+use Rattle.table_rules.specs.Check.{Seen}
 use Rattle.table_rules.proofs.Holds.{Below, below_once}
 use Rattle.table_rules.specs.SetOf.{set_of}
 use Rattle.table_rules.proofs.Ordered.{ordered, ordered→rule, rule→ordered}

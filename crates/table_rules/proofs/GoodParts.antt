@@ -15,7 +15,7 @@ use Rattle.table_rules.specs.Rows.{Mem, child, row_bits}
 use Rattle.table_rules.specs.Holds.{Names, Holds}
 use Rattle.table_rules.specs.Lookup.{wrong_row}
 use Rattle.table_rules.specs.Check.{no_rows, wrong_rows, path_on, seen_at}
-use Rattle.table_rules.specs.declared.Seen.{Seen}
+use Rattle.table_rules.specs.Check.{Seen}
 use Rattle.table_rules.proofs.Holds.{Below}
 use Rattle.table_rules.specs.Walk.{last_seen, seen_below}
 use Rattle.table_rules.proofs.Right.{Right, right}

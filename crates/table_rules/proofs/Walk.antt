@@ -7,7 +7,7 @@ use lib.Dec.{eqb}
 use Rattle.table_rules.specs.Rows.{Mem}
 use Rattle.table_rules.specs.Lookup.{wrong_row}
 use Rattle.table_rules.specs.Check.{seen, wrong_rows, seen_join, path_on, seen_at}
-use Rattle.table_rules.specs.declared.Seen.{Seen}
+use Rattle.table_rules.specs.Check.{Seen}
 use Rattle.table_rules.specs.Walk.{last_seen, seen_below}
 
 module _ (w : ℕ) (M : Mem) (n : ℕ) where

@@ -8,7 +8,13 @@ use Rattle.table_rules.specs.Rows.{Mem}
 use Rattle.bits.specs.Prefix.{ahead_of}
 use Rattle.table_rules.specs.Lookup.{wrong_row}
 use Rattle.table_rules.specs.declared.Row.{Row}
-use Rattle.table_rules.specs.declared.Seen.{Seen}
+
+-- what the check has seen of a subtree: whether a row is wrong; else how many rows, and the value and length of the one that goes first
+pub record Seen : Type 0 where
+  pub wrong : Bool
+  pub rows : ℕ
+  pub value : ℕ
+  pub len : ℕ
 
 -- `rows` rows, of which (value, len) goes first
 abbrev pub seen : ℕ → ℕ → ℕ → Seen

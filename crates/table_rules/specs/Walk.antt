@@ -6,7 +6,7 @@ use Rattle.table_rules.specs.Rows.{Mem}
 use Rattle.table_rules.specs.Check.{seen, no_rows, wrong_rows, seen_at}
 use Rattle.table_rules.specs.Save.{saved_at}
 use Rattle.table_rules.specs.declared.Row.{Row}
-use Rattle.table_rules.specs.declared.Seen.{Seen}
+use Rattle.table_rules.specs.Check.{Seen}
 
 -- a row at the full depth, which has no children
 abbrev pub last_seen : Row → Seen

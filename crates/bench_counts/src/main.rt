@@ -7,45 +7,33 @@ use count_update::{announce, apply, withdraw};
 use refusals::Answer;
 use std::io;
 
-fn text(rt: &impl Print, s: &[u8]) -> io::Result<()> {
-    rt.write_all(s)
-}
-
-fn number(rt: &impl Print, x: u64) -> io::Result<()> {
-    text(rt, b" ")?;
-    print!(rt; "{x}")
-}
-
-fn element(rt: &impl Print, counts: &[u64], i: usize) -> io::Result<()> {
-    if i < counts.len() {
-        number(rt, counts[i])?;
-    }
-    Ok(())
-}
-
 fn elements(rt: &impl Print, counts: &[u64]) -> io::Result<()> {
-    element(rt, counts, 0)?;
-    element(rt, counts, 7)?;
-    element(rt, counts, 9)?;
-    element(rt, counts, 4095)
+    for i in [0usize, 7, 9, 4095] {
+        if let Some(x) = counts.get(i) {
+            print!(rt; " {x}")?;
+        }
+    }
+    println!(rt)
 }
 
-fn show(rt: &impl Print, claim: &[u8], a: Answer, counts: &[u64]) -> io::Result<()> {
-    text(rt, claim)?;
-    number(rt, a.number as u64)?;
-    number(rt, a.place as u64)?;
-    number(rt, a.count as u64)?;
-    elements(rt, counts)?;
-    text(rt, b"\n")
+fn show(rt: &impl Print, claim: &str, answer: Answer, counts: &[u64]) -> io::Result<()> {
+    let Answer {
+        number,
+        place,
+        count,
+    } = answer;
+    print!(rt; "{claim} {number} {place} {count}")?;
+    elements(rt, counts)
 }
 
-fn made(rt: &impl Print, claim: &[u8], rows: &[u32], n: u32, counts: &mut [u64]) -> io::Result<()> {
-    show(rt, claim, make(rows, n, counts), counts)
+fn made(rt: &impl Print, claim: &str, rows: &[u32], n: u32, counts: &mut [u64]) -> io::Result<()> {
+    let answer = Answer::from(make(rows, n, counts));
+    show(rt, claim, answer, counts)
 }
 
 fn put(
     rt: &impl Print,
-    claim: &[u8],
+    claim: &str,
     rows: &mut [u32],
     n: u32,
     value: u32,
@@ -53,45 +41,43 @@ fn put(
     port: u32,
     counts: &mut [u64],
 ) -> io::Result<()> {
-    show(
-        rt,
-        claim,
-        announce(rows, n, value, len, port, counts),
-        counts,
-    )
+    let answer = Answer::updated(n, announce(rows, n, value, len, port, counts));
+    show(rt, claim, answer, counts)
 }
 
 fn take(
     rt: &impl Print,
-    claim: &[u8],
+    claim: &str,
     rows: &mut [u32],
     n: u32,
     counts: &mut [u64],
 ) -> io::Result<()> {
-    show(rt, claim, withdraw(rows, n, 0, 0, counts), counts)
+    let answer = Answer::updated(n, withdraw(rows, n, 0, 0, counts));
+    show(rt, claim, answer, counts)
 }
 
 // 255.255.255.255/32 withdrawn, and the whole space announced to port 9.
 fn send(
     rt: &impl Print,
-    claim: &[u8],
+    claim: &str,
     rows: &mut [u32],
     n: u32,
     counts: &mut [u64],
 ) -> io::Result<()> {
     let bytes =
         b"\xFF\xFF\xFF\xFF\xFF\xFF\xFF\xFF\xFF\xFF\xFF\xFF\xFF\xFF\xFF\xFF\x00\x1D\x02\x00\x05\x20\xFF\xFF\xFF\xFF\x00\x00\x00";
-    show(rt, claim, apply(bytes, 9, rows, n, counts), counts)
+    let answer = Answer::updated(n, apply(bytes, 9, rows, n, counts));
+    show(rt, claim, answer, counts)
 }
 
 // The whole space, then 10.0.0.0/31 and 10.0.0.0/32.
 fn nested(rt: &impl Print, rows: &mut [u32], counts: &mut [u64]) -> io::Result<()> {
-    put(rt, b"the_whole_space_goes_to_7", rows, 0, 0, 0, 7, counts)?;
-    put(rt, b"and_to_7_again", rows, 1, 0, 0, 7, counts)?;
-    put(rt, b"a_31_takes_two", rows, 1, 167772160, 31, 9, counts)?;
+    put(rt, "the_whole_space_goes_to_7", rows, 0, 0, 0, 7, counts)?;
+    put(rt, "and_to_7_again", rows, 1, 0, 0, 7, counts)?;
+    put(rt, "a_31_takes_two", rows, 1, 167772160, 31, 9, counts)?;
     put(
         rt,
-        b"a_32_inside_it_takes_one",
+        "a_32_inside_it_takes_one",
         rows,
         2,
         167772160,
@@ -101,7 +87,7 @@ fn nested(rt: &impl Print, rows: &mut [u32], counts: &mut [u64]) -> io::Result<(
     )
 }
 
-fn refused(rt: &impl Print, claim: &[u8], rows: &mut [u32], counts: &mut [u64]) -> io::Result<()> {
+fn refused(rt: &impl Print, claim: &str, rows: &mut [u32], counts: &mut [u64]) -> io::Result<()> {
     put(rt, claim, rows, 3, 0, 0, 9, counts)?;
     take(rt, claim, rows, 3, counts)?;
     send(rt, claim, rows, 3, counts)
@@ -110,11 +96,11 @@ fn refused(rt: &impl Print, claim: &[u8], rows: &mut [u32], counts: &mut [u64]) 
 fn main(rt: HostRuntime) -> io::Result<()> {
     let mut rows = [0u32; 20];
     let mut counts = [5u64; 4096];
-    made(&rt, b"without_routes_port_0_has_all", &rows, 0, &mut counts)?;
+    made(&rt, "without_routes_port_0_has_all", &rows, 0, &mut counts)?;
     nested(&rt, &mut rows, &mut counts)?;
     put(
         &rt,
-        b"the_last_address_takes_one",
+        "the_last_address_takes_one",
         &mut rows,
         3,
         4294967295,
@@ -124,17 +110,17 @@ fn main(rt: HostRuntime) -> io::Result<()> {
     )?;
     send(
         &rt,
-        b"a_message_takes_all_but_one",
+        "a_message_takes_all_but_one",
         &mut rows,
         4,
         &mut counts,
     )?;
     counts[9] = 4294967294;
-    refused(&rt, b"one_less_is_refused_11", &mut rows, &mut counts)?;
-    made(&rt, b"and_made_afresh", &rows, 3, &mut counts)?;
+    refused(&rt, "one_less_is_refused_11", &mut rows, &mut counts)?;
+    made(&rt, "and_made_afresh", &rows, 3, &mut counts)?;
     refused(
         &rt,
-        b"4094_counts_are_refused_9",
+        "4094_counts_are_refused_9",
         &mut rows,
         &mut [5u64; 4094],
     )

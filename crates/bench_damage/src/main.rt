@@ -2,7 +2,7 @@
 #![tactic(auto)]
 
 use image_lookup::lookup;
-use refusals::found::Found;
+use refusals::found::{Found, Lost, Reached};
 use std::io;
 
 // The nodes and the ports of example 9: "bitmaps 0,1,2,3,1,3", and "offsets become 1,2,2,2,1,1".
@@ -14,79 +14,61 @@ fn ports_9() -> [u16; 7] {
     [1, 2, 3, 4, 5, 6, 7]
 }
 
-fn text(rt: &impl Print, s: &[u8]) -> io::Result<()> {
-    rt.write_all(s)
-}
-
-fn number(rt: &impl Print, x: u32) -> io::Result<()> {
-    text(rt, b" ")?;
-    print!(rt; "{x}")
-}
-
-fn found(rt: &impl Print, claim: &[u8], x: Found) -> io::Result<()> {
-    text(rt, claim)?;
-    number(rt, x.number)?;
-    number(rt, x.port)?;
-    number(rt, x.reads)?;
-    text(rt, b"\n")
-}
-
-fn store_word(nodes: &mut [u32], at: usize, value: u32) {
-    if at < nodes.len() {
-        nodes[at] = value;
-    }
-}
-
-fn store_port(ports: &mut [u16], at: usize, value: u16) {
-    if at < ports.len() {
-        ports[at] = value;
-    }
+fn found(rt: &impl Print, claim: &str, x: Result<Reached, Lost>) -> io::Result<()> {
+    let Found {
+        number,
+        port,
+        reads,
+    } = Found::from(x);
+    println!(rt; "{claim} {number} {port} {reads}")
 }
 
 // Example 9, looked up at 0101 with one word changed, or with the first port changed.
-fn word_damaged(rt: &impl Print, claim: &[u8], at: usize, value: u32) -> io::Result<()> {
+fn word_damaged(rt: &impl Print, claim: &str, at: usize, value: u32) -> io::Result<()> {
     let mut nodes = nodes_9();
-    store_word(&mut nodes, at, value);
+    if let Some(word) = nodes.get_mut(at) {
+        *word = value;
+    }
     found(rt, claim, lookup(1, &nodes, &ports_9(), 1342177280))
 }
 
-fn port_damaged(rt: &impl Print, claim: &[u8], value: u16) -> io::Result<()> {
+fn port_damaged(rt: &impl Print, claim: &str, value: u16) -> io::Result<()> {
     let mut ports = ports_9();
-    store_port(&mut ports, 0, value);
+    ports[0] = value;
     found(rt, claim, lookup(1, &nodes_9(), &ports, 1342177280))
 }
 
 fn damages(rt: &impl Print) -> io::Result<()> {
-    word_damaged(rt, b"nothing_damaged", 12, 0)?;
-    word_damaged(rt, b"a_bitmap_of_4_is_refused_11", 2, 4)?;
-    port_damaged(rt, b"port_4095_is_refused_11", 4095)?;
-    port_damaged(rt, b"port_4094_is_answered", 4094)
+    word_damaged(rt, "nothing_damaged", 12, 0)?;
+    word_damaged(rt, "a_bitmap_of_4_is_refused_11", 2, 4)?;
+    port_damaged(rt, "port_4095_is_refused_11", 4095)?;
+    port_damaged(rt, "port_4094_is_answered", 4094)
 }
 
 // The offsets of nodes 1 and 2 where the leaf base is least, and where there is none.
 fn offsets_of_node_1(rt: &impl Print) -> io::Result<()> {
-    word_damaged(rt, b"offset_0_at_node_1_is_refused_11", 1, 0)?;
-    word_damaged(rt, b"leaf_base_minus_1_at_node_1_is_refused_11", 1, 2)
+    word_damaged(rt, "offset_0_at_node_1_is_refused_11", 1, 0)?;
+    word_damaged(rt, "leaf_base_minus_1_at_node_1_is_refused_11", 1, 2)
 }
 
 fn offsets_of_node_2(rt: &impl Print) -> io::Result<()> {
-    word_damaged(rt, b"offset_0_at_node_2_has_leaf_base_2", 3, 0)?;
-    word_damaged(rt, b"offset_1_at_node_2_has_leaf_base_1", 3, 1)?;
-    word_damaged(rt, b"leaf_base_minus_1_at_node_2_is_refused_11", 3, 3)?;
-    word_damaged(rt, b"the_largest_offset_is_refused_11", 3, 4294967295)
+    word_damaged(rt, "offset_0_at_node_2_has_leaf_base_2", 3, 0)?;
+    word_damaged(rt, "offset_1_at_node_2_has_leaf_base_1", 3, 1)?;
+    word_damaged(rt, "leaf_base_minus_1_at_node_2_is_refused_11", 3, 3)?;
+    word_damaged(rt, "the_largest_offset_is_refused_11", 3, 4294967295)
 }
 
 fn too_little(rt: &impl Print) -> io::Result<()> {
-    found(rt, b"no_nodes_are_refused_11", lookup(1, &[], &[], 0))?;
-    found(rt, b"half_a_node_is_none", lookup(1, &[3], &[5], 0))?;
+    found(rt, "no_nodes_are_refused_11", lookup(1, &[], &[], 0))?;
+    found(rt, "half_a_node_is_none", lookup(1, &[3], &[5], 0))?;
     found(
         rt,
-        b"a_node_past_those_lent_is_refused_11",
+        "a_node_past_those_lent_is_refused_11",
         lookup(1, &[0, 1, 3], &[5, 5], 0),
     )?;
     found(
         rt,
-        b"a_leaf_past_the_ports_is_refused_11",
+        "a_leaf_past_the_ports_is_refused_11",
         lookup(1, &[3, 1], &[5], 4294967295),
     )
 }
@@ -95,17 +77,17 @@ fn too_little(rt: &impl Print) -> io::Result<()> {
 fn too_deep(rt: &impl Print) -> io::Result<()> {
     found(
         rt,
-        b"a_non_leaf_at_depth_31_is_refused_11",
+        "a_non_leaf_at_depth_31_is_refused_11",
         lookup(1, &[0, 1, 0, 0], &[], 0),
     )?;
     found(
         rt,
-        b"a_non_leaf_at_depth_28_is_refused_11",
+        "a_non_leaf_at_depth_28_is_refused_11",
         lookup(4, &[0, 1, 0, 0], &[], 0),
     )?;
     found(
         rt,
-        b"stride_3_is_refused_12",
+        "stride_3_is_refused_12",
         lookup(3, &[0, 1, 0, 0], &[], 0),
     )
 }
@@ -115,7 +97,7 @@ fn three_words(rt: &impl Print) -> io::Result<()> {
     let nodes = [0, 1, 0, 1, 2, 0, 2, 2, 1, 3, 0, 2, 1, 1, 4, 3, 0, 5];
     found(
         rt,
-        b"three_words_a_node_are_read_as_two",
+        "three_words_a_node_are_read_as_two",
         lookup(1, &nodes, &ports_9(), 1342177280),
     )
 }

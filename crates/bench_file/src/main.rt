@@ -4,111 +4,86 @@
 
 use file_read::read_file;
 use file_write::write_file;
-use refusals::Answer;
-use std::io;
+use refusals::Refusal;
+use std::{fmt, io};
 
-fn text(rt: &impl Print, s: &[u8]) -> io::Result<()> {
-    rt.write_all(s)
-}
-
-fn number(rt: &impl Print, x: u32) -> io::Result<()> {
-    text(rt, b" ")?;
-    print!(rt; "{x}")
-}
-
-fn show(rt: &impl Print, a: Answer) -> io::Result<()> {
-    if a.number == 0 {
-        text(rt, b" done")?;
-        number(rt, a.count)?;
-    } else {
-        text(rt, b" refused")?;
-        number(rt, a.number)?;
-        number(rt, a.place)?;
+fn show(rt: &impl Print, answer: Result<u32, Refusal>) -> io::Result<()> {
+    match answer {
+        Ok(count) => println!(rt; " done {count}"),
+        Err(r) => {
+            let number = u32::from(r.fault);
+            let place = r.place;
+            println!(rt; " refused {number} {place}")
+        }
     }
-    text(rt, b"\n")
 }
 
-fn show_words(rt: &impl Print, claim: &[u8], words: &[u32]) -> io::Result<()> {
-    text(rt, claim)?;
-    let mut i: usize = 0;
-    while i < words.len() {
-        number(rt, words[i])?;
-        i += 1;
+// The words of a list, or the bytes of a file.
+fn show_all<T: fmt::Display>(rt: &impl Print, claim: &str, items: &[T]) -> io::Result<()> {
+    rt.print(claim)?;
+    for x in items {
+        print!(rt; " {x}")?;
     }
-    text(rt, b"\n")
-}
-
-fn show_bytes(rt: &impl Print, claim: &[u8], bytes: &[u8]) -> io::Result<()> {
-    text(rt, claim)?;
-    let mut i: usize = 0;
-    while i < bytes.len() {
-        number(rt, bytes[i] as u32)?;
-        i += 1;
-    }
-    text(rt, b"\n")
+    println!(rt)
 }
 
 // The first n bytes of a file, read into a list.
 fn read_part(
     rt: &impl Print,
-    claim: &[u8],
+    claim: &str,
     file: &[u8],
     n: usize,
     list: &mut [u32],
 ) -> io::Result<()> {
-    text(rt, claim)?;
-    if n <= file.len() {
-        show(rt, read_file(&file[..n], list))?;
+    rt.print(claim)?;
+    match file.get(..n) {
+        Some(part) => show(rt, read_file(part, list)),
+        None => Ok(()),
     }
-    Ok(())
 }
 
 // The first n words of a list, written into a file.
 fn write_part(
     rt: &impl Print,
-    claim: &[u8],
+    claim: &str,
     list: &[u32],
     n: usize,
     file: &mut [u8],
 ) -> io::Result<()> {
-    text(rt, claim)?;
-    if n <= list.len() {
-        show(rt, write_file(&list[..n], file))?;
+    rt.print(claim)?;
+    match list.get(..n) {
+        Some(part) => show(rt, write_file(part, file)),
+        None => Ok(()),
     }
-    Ok(())
 }
 
 // A file, read where there is room for three routes.
-fn read(rt: &impl Print, claim: &[u8], file: &[u8]) -> io::Result<()> {
+fn read(rt: &impl Print, claim: &str, file: &[u8]) -> io::Result<()> {
     let mut list = [0u32; 9];
-    text(rt, claim)?;
+    rt.print(claim)?;
     show(rt, read_file(file, &mut list))
 }
 
 // A list, written where there is room for three routes.
-fn write(rt: &impl Print, claim: &[u8], list: &[u32]) -> io::Result<()> {
+fn write(rt: &impl Print, claim: &str, list: &[u32]) -> io::Result<()> {
     let mut file = [0u8; 26];
-    text(rt, claim)?;
+    rt.print(claim)?;
     show(rt, write_file(list, &mut file))
 }
 
 fn heads(rt: &impl Print) -> io::Result<()> {
-    read(rt, b"an_empty_file_is_refused_1", b"")?;
-    read(rt, b"four_bytes_are_refused_1", b"\x01\x00\x00\x00")?;
-    read(rt, b"version_2_is_refused_2", b"\x02\x00\x00\x00\x00")?;
+    read(rt, "an_empty_file_is_refused_1", b"")?;
+    read(rt, "four_bytes_are_refused_1", b"\x01\x00\x00\x00")?;
+    read(rt, "version_2_is_refused_2", b"\x02\x00\x00\x00\x00")?;
+    read(rt, "a_size_too_large_is_refused_3", b"\x01\x00\x00\x00\x01")?;
     read(
         rt,
-        b"a_size_too_large_is_refused_3",
-        b"\x01\x00\x00\x00\x01",
-    )?;
-    read(
-        rt,
-        b"a_size_too_small_is_refused_3",
+        "a_size_too_small_is_refused_3",
         b"\x01\x00\x00\x00\x03\x00\x00\x01\x00",
     )?;
     read(
         rt,
-        b"a_size_is_big_endian",
+        "a_size_is_big_endian",
         b"\x01\x03\x00\x00\x00\x00\x00\x01",
     )
 }
@@ -116,27 +91,27 @@ fn heads(rt: &impl Print) -> io::Result<()> {
 fn lengths(rt: &impl Print) -> io::Result<()> {
     read(
         rt,
-        b"length_32_is_accepted",
+        "length_32_is_accepted",
         b"\x01\x00\x00\x00\x07\x20\x0A\x00\x00\x01\x00\x07",
     )?;
     read(
         rt,
-        b"length_33_is_refused_4",
+        "length_33_is_refused_4",
         b"\x01\x00\x00\x00\x08\x21\x0A\x00\x00\x01\x00\x00\x07",
     )?;
     read(
         rt,
-        b"a_prefix_of_length_0_has_no_byte",
+        "a_prefix_of_length_0_has_no_byte",
         b"\x01\x00\x00\x00\x03\x00\x00\x07",
     )?;
     read(
         rt,
-        b"a_cut_route_is_refused_3",
+        "a_cut_route_is_refused_3",
         b"\x01\x00\x00\x00\x07\x08\x0A\x00\x07\x10\x0A\x01",
     )?;
     read(
         rt,
-        b"bits_past_the_length_are_accepted",
+        "bits_past_the_length_are_accepted",
         b"\x01\x00\x00\x00\x04\x07\x0B\x00\x07",
     )
 }
@@ -144,22 +119,22 @@ fn lengths(rt: &impl Print) -> io::Result<()> {
 fn ports(rt: &impl Print) -> io::Result<()> {
     read(
         rt,
-        b"port_1_is_accepted",
+        "port_1_is_accepted",
         b"\x01\x00\x00\x00\x04\x08\x0A\x00\x01",
     )?;
     read(
         rt,
-        b"port_4094_is_accepted",
+        "port_4094_is_accepted",
         b"\x01\x00\x00\x00\x04\x08\x0A\x0F\xFE",
     )?;
     read(
         rt,
-        b"port_0_is_refused_6",
+        "port_0_is_refused_6",
         b"\x01\x00\x00\x00\x04\x08\x0A\x00\x00",
     )?;
     read(
         rt,
-        b"port_4095_is_refused_6",
+        "port_4095_is_refused_6",
         b"\x01\x00\x00\x00\x04\x08\x0A\x0F\xFF",
     )
 }
@@ -167,22 +142,22 @@ fn ports(rt: &impl Print) -> io::Result<()> {
 fn orders(rt: &impl Print) -> io::Result<()> {
     read(
         rt,
-        b"an_equal_prefix_is_refused_7",
+        "an_equal_prefix_is_refused_7",
         b"\x01\x00\x00\x00\x08\x08\x0A\x00\x07\x08\x0A\x00\x09",
     )?;
     read(
         rt,
-        b"a_smaller_value_is_refused_7",
+        "a_smaller_value_is_refused_7",
         b"\x01\x00\x00\x00\x08\x08\x0B\x00\x07\x08\x0A\x00\x09",
     )?;
     read(
         rt,
-        b"four_routes_for_three_are_refused_9",
+        "four_routes_for_three_are_refused_9",
         b"\x01\x00\x00\x00\x10\x08\x0A\x00\x07\x08\x0B\x00\x07\x08\x0C\x00\x07\x08\x0D\x00\x07",
     )?;
     read(
         rt,
-        b"7_comes_before_9",
+        "7_comes_before_9",
         b"\x01\x00\x00\x00\x10\x08\x0A\x00\x07\x08\x0B\x00\x07\x08\x0C\x00\x07\x08\x0C\x00\x07",
     )
 }
@@ -191,42 +166,38 @@ fn orders(rt: &impl Print) -> io::Result<()> {
 fn spared_orders(rt: &impl Print) -> io::Result<()> {
     read(
         rt,
-        b"a_prefix_equal_once_cleared_is_refused_7",
+        "a_prefix_equal_once_cleared_is_refused_7",
         b"\x01\x00\x00\x00\x0A\x09\x0A\x80\x00\x07\x09\x0A\x81\x00\x08",
     )?;
     read(
         rt,
-        b"a_prefix_below_once_cleared_is_refused_7",
+        "a_prefix_below_once_cleared_is_refused_7",
         b"\x01\x00\x00\x00\x0A\x10\x0A\x80\x00\x07\x09\x0A\x81\x00\x08",
     )
 }
 
 fn listed_lengths(rt: &impl Print) -> io::Result<()> {
-    write(rt, b"two_words_are_refused_3", &[167772160, 8])?;
-    write(rt, b"a_listed_length_32_is_accepted", &[167772161, 32, 7])?;
-    write(rt, b"a_listed_length_33_is_refused_4", &[167772161, 33, 7])?;
+    write(rt, "two_words_are_refused_3", &[167772160, 8])?;
+    write(rt, "a_listed_length_32_is_accepted", &[167772161, 32, 7])?;
+    write(rt, "a_listed_length_33_is_refused_4", &[167772161, 33, 7])?;
     write(
         rt,
-        b"listed_bits_past_the_length_are_refused_5",
+        "listed_bits_past_the_length_are_refused_5",
         &[167772160, 8, 7, 167772161, 31, 7],
     )
 }
 
 fn listed_ports(rt: &impl Print) -> io::Result<()> {
-    write(rt, b"a_listed_port_0_is_refused_6", &[167772160, 8, 0])?;
+    write(rt, "a_listed_port_0_is_refused_6", &[167772160, 8, 0])?;
+    write(rt, "a_listed_port_4095_is_refused_6", &[167772160, 8, 4095])?;
     write(
         rt,
-        b"a_listed_port_4095_is_refused_6",
-        &[167772160, 8, 4095],
-    )?;
-    write(
-        rt,
-        b"a_listed_equal_prefix_is_refused_7",
+        "a_listed_equal_prefix_is_refused_7",
         &[167772160, 8, 7, 167772160, 8, 9],
     )?;
     write(
         rt,
-        b"33_bytes_for_26_are_refused_9",
+        "33_bytes_for_26_are_refused_9",
         &[1, 32, 7, 2, 32, 7, 3, 32, 7, 4, 32, 7],
     )
 }
@@ -237,12 +208,12 @@ fn empty(rt: &impl Print) -> io::Result<()> {
     let mut file = [9u8; 6];
     read(
         rt,
-        b"01_00_00_00_00_is_the_empty_list",
+        "01_00_00_00_00_is_the_empty_list",
         b"\x01\x00\x00\x00\x00",
     )?;
-    text(rt, b"the_empty_list_is_written")?;
+    rt.print("the_empty_list_is_written")?;
     show(rt, write_file(&none, &mut file))?;
-    show_bytes(rt, b"the_empty_list_as_bytes", &file)
+    show_all(rt, "the_empty_list_as_bytes", &file)
 }
 
 // The file of three routes that the program `runs` reads: into a list of four, and back into 22 bytes.
@@ -250,11 +221,11 @@ fn three(rt: &impl Print) -> io::Result<()> {
     let file = b"\x01\x00\x00\x00\x0F\x08\x0A\x00\x07\x10\x0A\x01\x00\x09\x18\x0A\x01\x02\x00\x07";
     let mut list = [99u32; 12];
     let mut back = [99u8; 22];
-    text(rt, b"three_routes_are_read")?;
+    rt.print("three_routes_are_read")?;
     show(rt, read_file(file, &mut list))?;
-    show_words(rt, b"three_routes_as_words", &list)?;
-    write_part(rt, b"three_routes_are_written", &list, 9, &mut back)?;
-    show_bytes(rt, b"three_routes_as_bytes", &back)
+    show_all(rt, "three_routes_as_words", &list)?;
+    write_part(rt, "three_routes_are_written", &list, 9, &mut back)?;
+    show_all(rt, "three_routes_as_bytes", &back)
 }
 
 // A /1, a /9 and a /25 with all their spare bits set: seven of each. They come back cleared.
@@ -263,29 +234,25 @@ fn spared(rt: &impl Print) -> io::Result<()> {
         b"\x01\x00\x00\x00\x10\x01\x7F\x00\x07\x09\x0A\xFF\x00\x09\x19\x0A\xC0\x01\xFF\x00\x07";
     let mut list = [99u32; 12];
     let mut back = [99u8; 22];
-    text(rt, b"spare_bits_are_read")?;
+    rt.print("spare_bits_are_read")?;
     show(rt, read_file(file, &mut list))?;
-    show_words(rt, b"spare_bits_as_words", &list)?;
-    write_part(rt, b"spare_bits_are_written", &list, 9, &mut back)?;
-    show_bytes(rt, b"spare_bits_as_bytes", &back)
+    show_all(rt, "spare_bits_as_words", &list)?;
+    write_part(rt, "spare_bits_are_written", &list, 9, &mut back)?;
+    show_all(rt, "spare_bits_as_bytes", &back)
 }
 
 // As many routes as there is room for, of length 32, with ascending values.
 fn ascend(list: &mut [u32]) {
-    let n = list.len() / 3;
-    let mut i: usize = 0;
-    while i < n {
-        let row = i * 3;
-        list[row] = (i % 65536) as u32;
-        list[row + 1] = 32;
-        list[row + 2] = 1;
-        i += 1;
+    for (i, row) in list.chunks_exact_mut(3).enumerate() {
+        row[0] = (i % 65536) as u32;
+        row[1] = 32;
+        row[2] = 1;
     }
 }
 
 fn put(file: &mut [u8], at: usize, byte: u8) {
-    if at < file.len() {
-        file[at] = byte;
+    if let Some(x) = file.get_mut(at) {
+        *x = byte;
     }
 }
 
@@ -299,14 +266,14 @@ fn add_route(file: &mut [u8]) {
 
 fn most_written(rt: &impl Print, list: &mut [u32], file: &mut [u8]) -> io::Result<()> {
     ascend(list);
-    write_part(rt, b"4097_listed_routes_are_refused_8", list, 12291, file)?;
-    write_part(rt, b"4096_listed_routes_are_accepted", list, 12288, file)
+    write_part(rt, "4097_listed_routes_are_refused_8", list, 12291, file)?;
+    write_part(rt, "4096_listed_routes_are_accepted", list, 12288, file)
 }
 
 fn most_read(rt: &impl Print, file: &mut [u8], list: &mut [u32]) -> io::Result<()> {
-    read_part(rt, b"4096_routes_are_accepted", file, 28677, list)?;
+    read_part(rt, "4096_routes_are_accepted", file, 28677, list)?;
     add_route(file);
-    read_part(rt, b"4097_routes_are_refused_8", file, 28684, list)
+    read_part(rt, "4097_routes_are_refused_8", file, 28684, list)
 }
 
 // 4,096 routes, and one more.

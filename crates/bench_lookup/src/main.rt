@@ -2,8 +2,9 @@
 // that table saved as a list. A line is `claim`, the lookup's number, port and rows read, and the number that the check answers.
 #![tactic(auto)]
 
+use refusals::Answer;
 use refusals::found::Found;
-use routes::route_at;
+use routes::{Route, route_at};
 use std::io;
 use table_lookup::{check, lookup};
 use table_rows::{capacity_of, store_row};
@@ -44,123 +45,109 @@ fn table_i() -> [u32; 50] {
     rows
 }
 
-fn text(rt: &impl Print, s: &[u8]) -> io::Result<()> {
-    rt.write_all(s)
-}
-
-fn number(rt: &impl Print, x: u32) -> io::Result<()> {
-    text(rt, b" ")?;
-    print!(rt; "{x}")
-}
-
-fn show(rt: &impl Print, claim: &[u8], rows: &[u32], n: u32, address: u32) -> io::Result<()> {
-    let found: Found = lookup(rows, n, address);
-    let checked = check(rows, n);
-    text(rt, claim)?;
-    number(rt, found.number)?;
-    number(rt, found.port)?;
-    number(rt, found.reads)?;
-    number(rt, checked.number)?;
-    text(rt, b"\n")
+fn show(rt: &impl Print, claim: &str, rows: &[u32], n: u32, address: u32) -> io::Result<()> {
+    let Found {
+        number,
+        port,
+        reads,
+    } = Found::from(lookup(rows, n, address));
+    let checked = Answer::from(check(rows, n)).number;
+    println!(rt; "{claim} {number} {port} {reads} {checked}")
 }
 
 // Table I as it is.
-fn whole(rt: &impl Print, claim: &[u8], address: u32) -> io::Result<()> {
+fn whole(rt: &impl Print, claim: &str, address: u32) -> io::Result<()> {
     show(rt, claim, &table_i(), 10, address)
 }
 
 // Table I with one word changed.
 fn changed(at: usize, word: u32) -> [u32; 50] {
     let mut rows = table_i();
-    if at < 50 {
-        rows[at] = word;
+    if let Some(x) = rows.get_mut(at) {
+        *x = word;
     }
     rows
 }
 
-fn damaged(rt: &impl Print, claim: &[u8], at: usize, word: u32, address: u32) -> io::Result<()> {
+fn damaged(rt: &impl Print, claim: &str, at: usize, word: u32, address: u32) -> io::Result<()> {
     let rows = changed(at, word);
     show(rt, claim, &rows, 10, address)
 }
 
 fn examples(rt: &impl Print) -> io::Result<()> {
-    whole(rt, b"100110_is_row_0", 2550136832)?;
-    whole(rt, b"00_is_row_1", 0)?;
-    whole(rt, b"10010_is_row_2", 2415919104)?;
-    whole(rt, b"1000_is_row_6", 2147483648)?;
-    whole(rt, b"101_is_row_7", 2684354560)?;
-    whole(rt, b"1101_is_row_5", 3489660928)?;
-    whole(rt, b"1111_is_row_9", 4026531840)?;
-    show(rt, b"no_rows_read_of_an_empty_table", &table_i(), 0, 0)
+    whole(rt, "100110_is_row_0", 2550136832)?;
+    whole(rt, "00_is_row_1", 0)?;
+    whole(rt, "10010_is_row_2", 2415919104)?;
+    whole(rt, "1000_is_row_6", 2147483648)?;
+    whole(rt, "101_is_row_7", 2684354560)?;
+    whole(rt, "1101_is_row_5", 3489660928)?;
+    whole(rt, "1111_is_row_9", 4026531840)?;
+    show(rt, "no_rows_read_of_an_empty_table", &table_i(), 0, 0)
 }
 
 // "It answers 11 if n exceeds the capacity (no row read), or if a row read has": in the order of the rules. The word is number
 // 5 r + k, for word k of row r.
 fn refusals(rt: &impl Print) -> io::Result<()> {
-    show(rt, b"n_past_the_rows_lent", &table_i(), 11, 0)?;
-    damaged(rt, b"left_child_n", 3, 10, 0)?;
-    damaged(rt, b"right_child_n", 14, 10, 2415919104)?;
-    damaged(rt, b"length_33", 1, 33, 0)?;
-    damaged(rt, b"length_below_the_depth", 31, 2, 2147483648)?;
-    damaged(rt, b"bits_past_the_length", 10, 2415919105, 2415919104)?;
-    damaged(rt, b"port_0", 32, 0, 2147483648)?;
-    damaged(rt, b"port_4095", 37, 4095, 2684354560)?;
-    damaged(rt, b"prefix_off_the_path", 25, 1073741824, 3489660928)
+    show(rt, "n_past_the_rows_lent", &table_i(), 11, 0)?;
+    damaged(rt, "left_child_n", 3, 10, 0)?;
+    damaged(rt, "right_child_n", 14, 10, 2415919104)?;
+    damaged(rt, "length_33", 1, 33, 0)?;
+    damaged(rt, "length_below_the_depth", 31, 2, 2147483648)?;
+    damaged(rt, "bits_past_the_length", 10, 2415919105, 2415919104)?;
+    damaged(rt, "port_0", 32, 0, 2147483648)?;
+    damaged(rt, "port_4095", 37, 4095, 2684354560)?;
+    damaged(rt, "prefix_off_the_path", 25, 1073741824, 3489660928)
 }
 
 // What only the check sees, since the lookup does not come by.
 fn good_order(rt: &impl Print) -> io::Result<()> {
-    damaged(rt, b"row_9_is_not_reached", 44, 0, 0)?;
-    damaged(rt, b"row_1_below_itself", 18, 1, 0)?;
-    damaged(rt, b"row_7_is_reached_twice", 33, 7, 2684354560)?;
-    damaged(rt, b"one_prefix_twice", 1, 5, 2550136832)
+    damaged(rt, "row_9_is_not_reached", 44, 0, 0)?;
+    damaged(rt, "row_1_below_itself", 18, 1, 0)?;
+    damaged(rt, "row_7_is_reached_twice", 33, 7, 2684354560)?;
+    damaged(rt, "one_prefix_twice", 1, 5, 2550136832)
 }
 
 // A line is `claim`, the number, the place and the routes that the saving answers.
-fn save_into(rt: &impl Print, claim: &[u8], rows: &[u32], list: &mut [u32]) -> io::Result<()> {
-    let answer = save(rows, 10, list);
-    text(rt, claim)?;
-    number(rt, answer.number)?;
-    number(rt, answer.place)?;
-    number(rt, answer.count)?;
-    text(rt, b"\n")
+fn save_into(rt: &impl Print, claim: &str, rows: &[u32], list: &mut [u32]) -> io::Result<()> {
+    let Answer {
+        number,
+        place,
+        count,
+    } = Answer::from(save(rows, 10, list));
+    println!(rt; "{claim} {number} {place} {count}")
 }
 
-fn show_route(rt: &impl Print, claim: &[u8], list: &[u32], i: usize) -> io::Result<()> {
-    let route = route_at(list, i);
-    text(rt, claim)?;
-    number(rt, route.value)?;
-    number(rt, route.len)?;
-    number(rt, route.port)?;
-    text(rt, b"\n")
+fn show_route(rt: &impl Print, claim: &str, list: &[u32], i: usize) -> io::Result<()> {
+    let Route { value, len, port } = route_at(list, i);
+    println!(rt; "{claim} {value} {len} {port}")
 }
 
 fn show_saved(rt: &impl Print, list: &[u32]) -> io::Result<()> {
-    show_route(rt, b"first_00", list, 0)?;
-    show_route(rt, b"then_01", list, 1)?;
-    show_route(rt, b"then_1000", list, 2)?;
-    show_route(rt, b"then_10010", list, 3)?;
-    show_route(rt, b"then_10011", list, 4)?;
-    show_route(rt, b"then_100110", list, 5)?;
-    show_route(rt, b"then_101", list, 6)?;
-    show_route(rt, b"then_11", list, 7)?;
-    show_route(rt, b"then_1110", list, 8)?;
-    show_route(rt, b"last_1111", list, 9)?;
-    show_route(rt, b"the_words_past_them_are_as_they_were", list, 10)
+    show_route(rt, "first_00", list, 0)?;
+    show_route(rt, "then_01", list, 1)?;
+    show_route(rt, "then_1000", list, 2)?;
+    show_route(rt, "then_10010", list, 3)?;
+    show_route(rt, "then_10011", list, 4)?;
+    show_route(rt, "then_100110", list, 5)?;
+    show_route(rt, "then_101", list, 6)?;
+    show_route(rt, "then_11", list, 7)?;
+    show_route(rt, "then_1110", list, 8)?;
+    show_route(rt, "last_1111", list, 9)?;
+    show_route(rt, "the_words_past_them_are_as_they_were", list, 10)
 }
 
 fn saving(rt: &impl Print) -> io::Result<()> {
     let mut short = [0u32; 29];
-    save_into(rt, b"no_room_for_10_routes", &table_i(), &mut short)?;
-    show_route(rt, b"nothing_is_written", &short, 0)?;
+    save_into(rt, "no_room_for_10_routes", &table_i(), &mut short)?;
+    show_route(rt, "nothing_is_written", &short, 0)?;
     save_into(
         rt,
-        b"not_in_good_order_comes_first",
+        "not_in_good_order_comes_first",
         &changed(1, 33),
         &mut short,
     )?;
     let mut list = [7u32; 33];
-    save_into(rt, b"10_routes_are_saved", &table_i(), &mut list)?;
+    save_into(rt, "10_routes_are_saved", &table_i(), &mut list)?;
     show_saved(rt, &list)
 }
 

@@ -2,7 +2,8 @@
 // are refused; a longer route below a shorter one that comes and goes; and one that the place of a withdrawn one is filled with.
 #![tactic(auto)]
 
-use refusals::Answer;
+use refusals::found::Found;
+use refusals::{Answer, Refusal};
 use std::io;
 use table_lookup::lookup;
 use table_update::{announce, build, withdraw};
@@ -18,104 +19,118 @@ const TABLE_I: [u32; 60] = [
 // /0, 0 and 0110.
 const NESTED: [u32; 9] = [0, 0, 1, 0, 1, 2, 1610612736, 4, 3];
 
-fn text(rt: &impl Print, s: &[u8]) -> io::Result<()> {
-    rt.write_all(s)
-}
-
-fn number(rt: &impl Print, x: u32) -> io::Result<()> {
-    text(rt, b" ")?;
-    print!(rt; "{x}")
-}
-
 // A line is `claim`, the number, the place and the routes that the call answers.
-fn show(rt: &impl Print, claim: &[u8], answer: Answer) -> io::Result<()> {
-    text(rt, claim)?;
-    number(rt, answer.number)?;
-    number(rt, answer.place)?;
-    number(rt, answer.count)?;
-    text(rt, b"\n")
+fn show(rt: &impl Print, claim: &str, answer: Answer) -> io::Result<()> {
+    let Answer {
+        number,
+        place,
+        count,
+    } = answer;
+    println!(rt; "{claim} {number} {place} {count}")
+}
+
+// A change of a table of n routes.
+fn changed(rt: &impl Print, claim: &str, n: u32, x: Result<u32, Refusal>) -> io::Result<()> {
+    show(rt, claim, Answer::updated(n, x))
 }
 
 // A line of all the words: five for each row.
 fn show_words(rt: &impl Print, words: &[u32]) -> io::Result<()> {
-    let mut i: usize = 0;
-    while i < words.len() {
-        number(rt, words[i])?;
-        i += 1;
+    for word in words {
+        print!(rt; " {word}")?;
     }
-    text(rt, b"\n")
+    println!(rt)
 }
 
-fn show_port(rt: &impl Print, claim: &[u8], rows: &[u32], n: u32, address: u32) -> io::Result<()> {
-    let found = lookup(rows, n, address);
-    text(rt, claim)?;
-    number(rt, found.number)?;
-    number(rt, found.port)?;
-    number(rt, found.reads)?;
-    text(rt, b"\n")
+fn show_port(rt: &impl Print, claim: &str, rows: &[u32], n: u32, address: u32) -> io::Result<()> {
+    let Found {
+        number,
+        port,
+        reads,
+    } = Found::from(lookup(rows, n, address));
+    println!(rt; "{claim} {number} {port} {reads}")
 }
 
 // "Withdraw 100110: row 0 holds 10010, row 2 10011, row 4 1000 with children (-,7); 1111 moves to row 6, row 8's right child is
 // 6, row 9 is zeros."
 fn example_8(rt: &impl Print) -> io::Result<()> {
     let mut rows = TABLE_I;
-    show(
+    changed(
         rt,
-        b"100110_is_withdrawn",
+        "100110_is_withdrawn",
+        10,
         withdraw(&mut rows, 10, 2550136832, 6),
     )?;
     show_words(rt, &rows)?;
-    show(
+    changed(
         rt,
-        b"and_announced_again",
+        "and_announced_again",
+        9,
         announce(&mut rows, 9, 2550136832, 6, 1),
     )?;
     show_words(rt, &rows)?;
-    show(
+    changed(
         rt,
-        b"a_held_prefix_gets_the_new_port",
+        "a_held_prefix_gets_the_new_port",
+        10,
         announce(&mut rows, 10, 2550136832, 6, 4094),
     )?;
-    show_port(rt, b"which_the_lookup_answers", &rows, 10, 2550136832)
+    show_port(rt, "which_the_lookup_answers", &rows, 10, 2550136832)
 }
 
 fn refusals(rt: &impl Print) -> io::Result<()> {
     let mut rows = TABLE_I;
-    show(rt, b"length_33", announce(&mut rows, 10, 0, 33, 1))?;
-    show(
+    changed(rt, "length_33", 10, announce(&mut rows, 10, 0, 33, 1))?;
+    changed(
         rt,
-        b"bits_past_the_length",
+        "bits_past_the_length",
+        10,
         announce(&mut rows, 10, 1, 31, 1),
     )?;
-    show(rt, b"port_0", announce(&mut rows, 10, 0, 1, 0))?;
-    show(rt, b"port_4095", announce(&mut rows, 10, 0, 1, 4095))?;
-    show(rt, b"not_in_good_order", announce(&mut rows, 11, 0, 1, 1))?;
-    show(
+    changed(rt, "port_0", 10, announce(&mut rows, 10, 0, 1, 0))?;
+    changed(rt, "port_4095", 10, announce(&mut rows, 10, 0, 1, 4095))?;
+    changed(
         rt,
-        b"withdrawal_of_length_33",
+        "not_in_good_order",
+        11,
+        announce(&mut rows, 11, 0, 1, 1),
+    )?;
+    changed(
+        rt,
+        "withdrawal_of_length_33",
+        10,
         withdraw(&mut rows, 10, 0, 33),
     )?;
-    show(
+    changed(
         rt,
-        b"withdrawal_with_bits_past_the_length",
+        "withdrawal_with_bits_past_the_length",
+        10,
         withdraw(&mut rows, 10, 1, 31),
     )?;
-    show(
+    changed(
         rt,
-        b"withdrawal_from_a_table_not_in_good_order",
+        "withdrawal_from_a_table_not_in_good_order",
+        11,
         withdraw(&mut rows, 11, 0, 2),
     )?;
-    show(
+    changed(
         rt,
-        b"withdrawal_of_a_prefix_not_held",
+        "withdrawal_of_a_prefix_not_held",
+        10,
         withdraw(&mut rows, 10, 0, 1),
     )?;
-    show(rt, b"two_rows_are_free", announce(&mut rows, 10, 0, 1, 1))?;
-    show(rt, b"now_one", announce(&mut rows, 11, 0, 3, 1))?;
-    show(rt, b"now_none", announce(&mut rows, 12, 0, 4, 1))?;
-    show(
+    changed(
         rt,
-        b"but_a_held_prefix_needs_none",
+        "two_rows_are_free",
+        10,
+        announce(&mut rows, 10, 0, 1, 1),
+    )?;
+    changed(rt, "now_one", 11, announce(&mut rows, 11, 0, 3, 1))?;
+    changed(rt, "now_none", 12, announce(&mut rows, 12, 0, 4, 1))?;
+    changed(
+        rt,
+        "but_a_held_prefix_needs_none",
+        12,
         announce(&mut rows, 12, 0, 3, 2),
     )
 }
@@ -125,27 +140,28 @@ fn nested(rt: &impl Print) -> io::Result<()> {
     let mut rows = [0u32; 15];
     show(
         rt,
-        b"no_row_for_the_third_route",
-        build(&NESTED, &mut [0u32; 14]),
+        "no_row_for_the_third_route",
+        Answer::from(build(&NESTED, &mut [0u32; 14])),
     )?;
     show(
         rt,
-        b"three_nested_routes_are_built",
-        build(&NESTED, &mut rows),
+        "three_nested_routes_are_built",
+        Answer::from(build(&NESTED, &mut rows)),
     )?;
     show_words(rt, &rows)?;
-    show_port(rt, b"0110_goes_to_the_longest", &rows, 3, 1610612736)?;
-    show_port(rt, b"0111_to_the_shorter", &rows, 3, 1879048192)?;
-    show(
+    show_port(rt, "0110_goes_to_the_longest", &rows, 3, 1610612736)?;
+    show_port(rt, "0111_to_the_shorter", &rows, 3, 1879048192)?;
+    changed(
         rt,
-        b"the_longest_is_withdrawn",
+        "the_longest_is_withdrawn",
+        3,
         withdraw(&mut rows, 3, 1610612736, 4),
     )?;
     show_words(rt, &rows)?;
-    show_port(rt, b"0110_goes_to_the_shorter", &rows, 2, 1610612736)?;
-    show(rt, b"then_the_whole_space", withdraw(&mut rows, 2, 0, 0))?;
-    show_port(rt, b"1_goes_nowhere", &rows, 1, 2147483648)?;
-    show(rt, b"then_the_last", withdraw(&mut rows, 1, 0, 1))?;
+    show_port(rt, "0110_goes_to_the_shorter", &rows, 2, 1610612736)?;
+    changed(rt, "then_the_whole_space", 2, withdraw(&mut rows, 2, 0, 0))?;
+    show_port(rt, "1_goes_nowhere", &rows, 1, 2147483648)?;
+    changed(rt, "then_the_last", 1, withdraw(&mut rows, 1, 0, 1))?;
     show_words(rt, &rows)
 }
 
@@ -153,16 +169,21 @@ fn nested(rt: &impl Print) -> io::Result<()> {
 // past the table and stays.
 fn hidden(rt: &impl Print) -> io::Result<()> {
     let mut rows = [7u32; 20];
-    show(rt, b"three_routes_one_hidden", build(&NESTED, &mut rows))?;
     show(
         rt,
-        b"the_whole_space_is_withdrawn",
+        "three_routes_one_hidden",
+        Answer::from(build(&NESTED, &mut rows)),
+    )?;
+    changed(
+        rt,
+        "the_whole_space_is_withdrawn",
+        3,
         withdraw(&mut rows, 3, 0, 0),
     )?;
     show_words(rt, &rows)?;
-    show_port(rt, b"0110_is_at_the_root", &rows, 2, 1610612736)?;
-    show_port(rt, b"0111_goes_on_to_the_shorter", &rows, 2, 1879048192)?;
-    show_port(rt, b"1_now_goes_nowhere", &rows, 2, 2147483648)
+    show_port(rt, "0110_is_at_the_root", &rows, 2, 1610612736)?;
+    show_port(rt, "0111_goes_on_to_the_shorter", &rows, 2, 1879048192)?;
+    show_port(rt, "1_now_goes_nowhere", &rows, 2, 2147483648)
 }
 
 fn main(rt: HostRuntime) -> io::Result<()> {

@@ -39,6 +39,10 @@ module _ (runs : List ℕ) where
   pub run_of_here : (c a : ℕ) → a ≤ run_end runs c → run_of runs c a ≡ c
   run_of_here c a h = run_here (run_count runs - c) c a h
 
+  pub run_of_past : (c a : ℕ) → run_count runs ≤ c → run_of runs c a ≡ c
+  unfolding run_from
+  run_of_past c a h = let none : run_count runs - c ≡ 0 = omega arith in rw none
+
   pub run_of_passed : (c a : ℕ) → c < run_count runs → run_end runs c < a → run_of runs c a ≡ run_of runs (c + 1) a
   unfolding run_from
   run_of_passed c a l h =

@@ -39,11 +39,13 @@ fn run_port(runs: &[u32], run: usize) -> u16
 fn run_of(runs: &[u32], from: usize, address: u32) -> usize
     ensures { result ≡ run_of runs.now from address }
 {
-    let mut run = from;
-    while run_end(runs, run) < address {
-        run += 1;
+    let count = runs.len() / RUN_SIZE;
+    for run in from..count {
+        if address <= run_end(runs, run) {
+            return run;
+        }
     }
-    run
+    from.max(count)
 }
 
 // The first address of a block of 2^shift addresses.

@@ -3,7 +3,7 @@
 #![tactic(auto)]
 
 use image_lookup::many::lookup_many;
-use refusals::Answer;
+use refusals::{Answer, Refusal};
 use std::io;
 
 // The nodes and the ports of example 9, of the routes 01, 10, 000, 001, 111, 1100, 1101 to ports 1..7.
@@ -20,51 +20,21 @@ fn addresses() -> [u32; 4] {
     [1073741824, 2147483648, 3489660928, 1073741824]
 }
 
-fn text(rt: &impl Print, s: &[u8]) -> io::Result<()> {
-    rt.write_all(s)
-}
-
-fn number(rt: &impl Print, x: u32) -> io::Result<()> {
-    text(rt, b" ")?;
-    print!(rt; "{x}")
-}
-
-fn wide(x: u16) -> u32 {
-    x as u32
-}
-
-fn show_elements(rt: &impl Print, out: &[u16]) -> io::Result<()> {
-    let mut i: usize = 0;
-    while i < out.len() {
-        number(rt, wide(out[i]))?;
-        i += 1;
+fn left(rt: &impl Print, claim: &str, x: Result<u32, Refusal>, out: &[u16]) -> io::Result<()> {
+    let Answer {
+        number,
+        place,
+        count,
+    } = Answer::from(x);
+    print!(rt; "{claim} {number} {place} {count}")?;
+    for element in out {
+        print!(rt; " {element}")?;
     }
-    Ok(())
-}
-
-fn left(rt: &impl Print, claim: &[u8], x: Answer, out: &[u16]) -> io::Result<()> {
-    text(rt, claim)?;
-    number(rt, x.number)?;
-    number(rt, x.place)?;
-    number(rt, x.count)?;
-    show_elements(rt, out)?;
-    text(rt, b"\n")
-}
-
-fn store_word(nodes: &mut [u32], at: usize, value: u32) {
-    if at < nodes.len() {
-        nodes[at] = value;
-    }
-}
-
-fn store_entry(first: &mut [u16], at: usize, value: u16) {
-    if at < first.len() {
-        first[at] = value;
-    }
+    println!(rt)
 }
 
 // The four addresses in example 9, with five elements lent.
-fn looked(rt: &impl Print, claim: &[u8], stride: u32, nodes: &[u32]) -> io::Result<()> {
+fn looked(rt: &impl Print, claim: &str, stride: u32, nodes: &[u32]) -> io::Result<()> {
     let mut out = [77u16; 5];
     let x = lookup_many(stride, nodes, &ports_9(), &addresses(), &mut out);
     left(rt, claim, x, &out)
@@ -73,17 +43,17 @@ fn looked(rt: &impl Print, claim: &[u8], stride: u32, nodes: &[u32]) -> io::Resu
 // Node 2 is that of the addresses 01, and no bitmap of stride 1 is 4.
 fn damaged(rt: &impl Print) -> io::Result<()> {
     let mut nodes = nodes_9();
-    store_word(&mut nodes, 2, 4);
-    looked(rt, b"what_is_refused_11_is_65535_and_no_more", 1, &nodes)
+    nodes[2] = 4;
+    looked(rt, "what_is_refused_11_is_65535_and_no_more", 1, &nodes)
 }
 
 fn without_addresses(rt: &impl Print) -> io::Result<()> {
     let mut out = [77u16; 1];
     let x = lookup_many(1, &nodes_9(), &ports_9(), &[], &mut out);
-    left(rt, b"no_addresses_leave_all_as_it_is", x, &out)
+    left(rt, "no_addresses_leave_all_as_it_is", x, &out)
 }
 
-fn without_room(rt: &impl Print, claim: &[u8], stride: u32) -> io::Result<()> {
+fn without_room(rt: &impl Print, claim: &str, stride: u32) -> io::Result<()> {
     let mut out = [77u16; 3];
     let x = lookup_many(stride, &nodes_9(), &ports_9(), &addresses(), &mut out);
     left(rt, claim, x, &out)
@@ -92,7 +62,7 @@ fn without_room(rt: &impl Print, claim: &[u8], stride: u32) -> io::Result<()> {
 // Addresses 0.1.0.0, 0.2.0.0, 0.0.0.0 in segment tables without a segment, by their first table.
 fn looked_in_segments(
     rt: &impl Print,
-    claim: &[u8],
+    claim: &str,
     first: &[u16],
     out: &mut [u16],
 ) -> io::Result<()> {
@@ -103,19 +73,19 @@ fn looked_in_segments(
 // 0.1 goes to port 5; the entry of 0.2 is a port above 4094.
 fn in_segments(rt: &impl Print) -> io::Result<()> {
     let mut first = [0u16; 65536];
-    store_entry(&mut first, 1, 5);
-    store_entry(&mut first, 2, 4095);
+    first[1] = 5;
+    first[2] = 4095;
     let mut out = [77u16; 4];
     looked_in_segments(
         rt,
-        b"a_port_of_4095_in_segment_tables_is_65535",
+        "a_port_of_4095_in_segment_tables_is_65535",
         &first,
         &mut out,
     )?;
     let mut short = [77u16; 2];
     looked_in_segments(
         rt,
-        b"one_short_in_segment_tables_is_refused_9",
+        "one_short_in_segment_tables_is_refused_9",
         &first,
         &mut short,
     )
@@ -125,7 +95,7 @@ fn in_short_segments(rt: &impl Print) -> io::Result<()> {
     let mut out = [77u16; 3];
     looked_in_segments(
         rt,
-        b"in_65535_first_entries_all_is_65535",
+        "in_65535_first_entries_all_is_65535",
         &[0u16; 65535],
         &mut out,
     )
@@ -134,14 +104,14 @@ fn in_short_segments(rt: &impl Print) -> io::Result<()> {
 fn main(rt: HostRuntime) -> io::Result<()> {
     looked(
         &rt,
-        b"each_address_has_its_port_and_the_rest_stays",
+        "each_address_has_its_port_and_the_rest_stays",
         1,
         &nodes_9(),
     )?;
     damaged(&rt)?;
     without_addresses(&rt)?;
-    without_room(&rt, b"one_short_is_refused_9", 1)?;
-    without_room(&rt, b"stride_3_is_refused_12_before_9", 3)?;
+    without_room(&rt, "one_short_is_refused_9", 1)?;
+    without_room(&rt, "stride_3_is_refused_12_before_9", 3)?;
     in_segments(&rt)?;
     in_short_segments(&rt)
 }

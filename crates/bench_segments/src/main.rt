@@ -3,78 +3,53 @@
 // entry; that of a segment's entries is `claim`, where they begin in their store, how many.
 #![tactic(auto)]
 
-use refusals::found::Found;
+use refusals::found::{Found, Lost, Reached};
 use routes::{Route, store_route};
 use segment_build::build;
 use segment_entries::part_of;
 use segment_lookup::lookup;
+use segment_rules::{Built, Part};
 use std::io;
-
-fn text(rt: &impl Print, s: &[u8]) -> io::Result<()> {
-    rt.write_all(s)
-}
-
-fn number(rt: &impl Print, x: u32) -> io::Result<()> {
-    text(rt, b" ")?;
-    print!(rt; "{x}")
-}
-
-fn place(rt: &impl Print, x: usize) -> io::Result<()> {
-    text(rt, b" ")?;
-    print!(rt; "{x}")
-}
-
-fn wide(x: u16) -> u32 {
-    x as u32
-}
 
 fn built(
     rt: &impl Print,
-    claim: &[u8],
+    claim: &str,
     list: &[u32],
     first: &mut [u16],
     packed: &mut [u16],
     plain: &mut [u16],
     last: &mut [u16],
 ) -> io::Result<()> {
-    let b = build(list, first, packed, plain, last);
-    text(rt, claim)?;
-    number(rt, b.number)?;
-    number(rt, b.place)?;
-    number(rt, b.packed)?;
-    number(rt, b.plain)?;
-    number(rt, b.last)?;
-    text(rt, b"\n")
+    let Built {
+        number,
+        place,
+        packed,
+        plain,
+        last,
+    } = Built::from(build(list, first, packed, plain, last));
+    println!(rt; "{claim} {number} {place} {packed} {plain} {last}")
 }
 
-fn found(rt: &impl Print, claim: &[u8], x: Found) -> io::Result<()> {
-    text(rt, claim)?;
-    number(rt, x.number)?;
-    number(rt, x.port)?;
-    number(rt, x.reads)?;
-    text(rt, b"\n")
+fn found(rt: &impl Print, claim: &str, x: Result<Reached, Lost>) -> io::Result<()> {
+    let Found {
+        number,
+        port,
+        reads,
+    } = Found::from(x);
+    println!(rt; "{claim} {number} {port} {reads}")
 }
 
-fn entry(rt: &impl Print, claim: &[u8], store: &[u16], at: usize) -> io::Result<()> {
-    text(rt, claim)?;
-    if at < store.len() {
-        number(rt, wide(store[at]))?;
+fn entry(rt: &impl Print, claim: &str, store: &[u16], at: usize) -> io::Result<()> {
+    print!(rt; "{claim}")?;
+    if let Some(x) = store.get(at) {
+        print!(rt; " {x}")?;
     }
-    text(rt, b"\n")
+    println!(rt)
 }
 
-fn part(
-    rt: &impl Print,
-    claim: &[u8],
-    packed: &[u16],
-    plain: &[u16],
-    entry: u32,
-) -> io::Result<()> {
-    let p = part_of(packed.len(), plain.len(), entry);
-    text(rt, claim)?;
-    place(rt, p.from)?;
-    place(rt, p.count)?;
-    text(rt, b"\n")
+fn part(rt: &impl Print, claim: &str, packed: &[u16], plain: &[u16], entry: u32) -> io::Result<()> {
+    let Part { from, count, .. } = part_of(packed.len(), plain.len(), entry);
+    println!(rt; "{claim} {from} {count}")
 }
 
 fn route(value: u32, len: u32, port: u32) -> Route {
@@ -90,10 +65,8 @@ fn store_two(list: &mut [u32], k: usize) {
 }
 
 fn store_apart(list: &mut [u32]) {
-    let mut k: usize = 0;
-    while k < 32 {
+    for k in 0..32 {
         store_two(list, k);
-        k += 1;
     }
 }
 
@@ -115,7 +88,7 @@ fn short_first(rt: &impl Print, list: &[u32]) -> io::Result<()> {
     let mut last = [0u16; 256];
     built(
         rt,
-        b"65535_first_entries_are_refused_9",
+        "65535_first_entries_are_refused_9",
         list,
         &mut first,
         &mut packed,
@@ -131,7 +104,7 @@ fn short_packed(rt: &impl Print, list: &[u32]) -> io::Result<()> {
     let mut last = [0u16; 256];
     built(
         rt,
-        b"287_packed_words_are_refused_9",
+        "287_packed_words_are_refused_9",
         list,
         &mut first,
         &mut packed,
@@ -147,7 +120,7 @@ fn short_plain(rt: &impl Print, list: &[u32]) -> io::Result<()> {
     let mut last = [0u16; 256];
     built(
         rt,
-        b"255_plain_words_are_refused_9",
+        "255_plain_words_are_refused_9",
         list,
         &mut first,
         &mut packed,
@@ -163,27 +136,27 @@ fn short_last(rt: &impl Print, list: &[u32]) -> io::Result<()> {
     let mut last = [0u16; 255];
     built(
         rt,
-        b"255_last_words_are_refused_9",
+        "255_last_words_are_refused_9",
         list,
         &mut first,
         &mut packed,
         &mut plain,
         &mut last,
     )?;
-    entry(rt, b"no_entry_is_written", &first, 2304)
+    entry(rt, "no_entry_is_written", &first, 2304)
 }
 
 fn entries_of(rt: &impl Print, first: &[u16], plain: &[u16]) -> io::Result<()> {
     entry(
         rt,
-        b"a_longer_route_of_the_same_port_makes_a_pointer",
+        "a_longer_route_of_the_same_port_makes_a_pointer",
         first,
         2304,
     )?;
-    entry(rt, b"64_ones_are_packed", first, 2560)?;
-    entry(rt, b"65_ones_are_plain", first, 2561)?;
-    entry(rt, b"a_route_of_16_bits_makes_no_pointer", first, 2562)?;
-    entry(rt, b"a_route_of_24_bits_makes_no_pointer", plain, 1)
+    entry(rt, "64_ones_are_packed", first, 2560)?;
+    entry(rt, "65_ones_are_plain", first, 2561)?;
+    entry(rt, "a_route_of_16_bits_makes_no_pointer", first, 2562)?;
+    entry(rt, "a_route_of_24_bits_makes_no_pointer", plain, 1)
 }
 
 fn addresses(
@@ -195,30 +168,30 @@ fn addresses(
 ) -> io::Result<()> {
     found(
         rt,
-        b"a_port_takes_1_read",
+        "a_port_takes_1_read",
         lookup(first, packed, plain, last, 167903233),
     )?;
     found(
         rt,
-        b"a_plain_segment_takes_2_reads",
+        "a_plain_segment_takes_2_reads",
         lookup(first, packed, plain, last, 167853825),
     )?;
     found(
         rt,
-        b"a_packed_segment_takes_3_reads",
+        "a_packed_segment_takes_3_reads",
         lookup(first, packed, plain, last, 167788033),
     )?;
     found(
         rt,
-        b"a_last_block_takes_1_more",
+        "a_last_block_takes_1_more",
         lookup(first, packed, plain, last, 167969151),
     )
 }
 
 fn parts(rt: &impl Print, packed: &[u16], plain: &[u16]) -> io::Result<()> {
-    part(rt, b"the_entries_of_a_packed_segment", packed, plain, 32769)?;
-    part(rt, b"the_entries_of_a_plain_segment", packed, plain, 49152)?;
-    part(rt, b"a_port_names_no_entries", packed, plain, 7)
+    part(rt, "the_entries_of_a_packed_segment", packed, plain, 32769)?;
+    part(rt, "the_entries_of_a_plain_segment", packed, plain, 49152)?;
+    part(rt, "a_port_names_no_entries", packed, plain, 7)
 }
 
 fn tables(
@@ -229,15 +202,7 @@ fn tables(
     plain: &mut [u16],
     last: &mut [u16],
 ) -> io::Result<()> {
-    built(
-        rt,
-        b"the_tables_are_built",
-        list,
-        first,
-        packed,
-        plain,
-        last,
-    )?;
+    built(rt, "the_tables_are_built", list, first, packed, plain, last)?;
     entries_of(rt, first, plain)?;
     addresses(rt, first, packed, plain, last)?;
     parts(rt, packed, plain)
@@ -257,12 +222,12 @@ fn damages(rt: &impl Print) -> io::Result<()> {
     let packed = [0u16; 96];
     found(
         rt,
-        b"a_codeword_of_0_is_refused_11",
+        "a_codeword_of_0_is_refused_11",
         lookup(&first, &packed, &[], &[], 0),
     )?;
     found(
         rt,
-        b"65535_first_entries_are_refused_11",
+        "65535_first_entries_are_refused_11",
         lookup(&[0u16; 65535], &packed, &[], &[], 0),
     )
 }

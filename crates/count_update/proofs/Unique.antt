@@ -29,10 +29,10 @@ left_one n x y r s c d e =
     let results = updated_one n x y (ap (λ (u : Counted). u.answer) e) in
     λ i. left (results i) (ap (λ (u : Counted). u.rows) e i) (ap (λ (u : Counted). u.counts) e i)
 
-announce_unique : Determined 2 announce_kinds.ps announce_kinds.r announce_reads.Post (λ κs x s. left x s.0.now s.1.1.1.1.1.0.now)
+announce_unique : Determined 2 announce_kinds.ps announce_kinds.r announce_reads.Post (λ κs x s. left x s.0.now s.1.1.1.0.now)
 announce_unique κs a x y s t p q = left_one a.1.0 x y _ _ _ _ (p ∙ sym q)
 
-withdraw_unique : Determined 2 withdraw_kinds.ps withdraw_kinds.r withdraw_reads.Post (λ κs x s. left x s.0.now s.1.1.1.1.0.now)
+withdraw_unique : Determined 2 withdraw_kinds.ps withdraw_kinds.r withdraw_reads.Post (λ κs x s. left x s.0.now s.1.1.1.0.now)
 withdraw_unique κs a x y s t p q = left_one a.1.0 x y _ _ _ _ (p ∙ sym q)
 
 -- the message is read, and the words of the rows and the counts are what the call may change

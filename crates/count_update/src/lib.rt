@@ -5,7 +5,6 @@ ghost use Rattle.std.specs.Prelude.{◌≡◌, ℕ};
 ghost use Rattle.refusals.specs.Refusals.{fault_number, updated};
 ghost use Rattle.table_update.specs.Calls.{keeping};
 ghost use Rattle.promise.specs.Over.{outcome, over};
-ghost use Rattle.routes.specs.Routes.{route};
 ghost use Rattle.table_rows.specs.Words.{five_words};
 ghost use Rattle.table_update.specs.History.{announcing, withdrawing};
 ghost use Rattle.message_calls.specs.History.{single, message};
@@ -16,6 +15,7 @@ ghost use Rattle.count_update.specs.Needs.{FreshLent, Countable};
 use count_make::make;
 use count_rules::PORTS;
 use message_check::check_message;
+use prefix::Prefix;
 use refusals::{Fault, Refusal};
 use routes::{Route, is_port};
 
@@ -100,37 +100,24 @@ fn message_fault(message: &[u8], port: u32) -> Result<(), Refusal>
 
 // Announces a route to a table of n routes, and keeps the counts in step; the count answered is the new n. Refuses as the first checks
 // do, with 4, 5 and 6 for the arguments; then 9 at 0, the prefix is new and the table full. It needs some 190 KB of stack.
-pub fn announce(
-    rows: &mut [u32],
-    n: u32,
-    value: u32,
-    len: u32,
-    port: u32,
-    counts: &mut [u64],
-) -> Result<u32, Refusal>
-    ensures { counted (updated n result) rows.new counts.new ≡ counted_on five_words 32 rows.old n counts.old (single (announcing (route value len port))) }
+pub fn announce(rows: &mut [u32], n: u32, q: Route, counts: &mut [u64]) -> Result<u32, Refusal>
+    ensures { counted (updated n result) rows.new counts.new ≡ counted_on five_words 32 rows.old n counts.old (single (announcing q)) }
 {
-    let fault = at_0(routes::route_fault(Route { value, len, port }));
+    let fault = at_0(routes::route_fault(q));
     first_check(fault, rows, n, counts)?;
-    let done = table_update::announce(rows, n, value, len, port)?;
+    let done = table_update::announce(rows, n, q)?;
     recount(rows, done, counts);
     Ok(done)
 }
 
 // Withdraws a prefix from a table of n routes, and keeps the counts in step; the count answered is the new n. Refuses as the first
 // checks do, with 4 and 5 for the arguments; then 10 at 0, the prefix is not held. It needs some 190 KB of stack.
-pub fn withdraw(
-    rows: &mut [u32],
-    n: u32,
-    value: u32,
-    len: u32,
-    counts: &mut [u64],
-) -> Result<u32, Refusal>
-    ensures { counted (updated n result) rows.new counts.new ≡ counted_on five_words 32 rows.old n counts.old (single (withdrawing value len)) }
+pub fn withdraw(rows: &mut [u32], n: u32, p: Prefix, counts: &mut [u64]) -> Result<u32, Refusal>
+    ensures { counted (updated n result) rows.new counts.new ≡ counted_on five_words 32 rows.old n counts.old (single (withdrawing p.value p.len)) }
 {
-    let fault = at_0(routes::prefix_fault(value, len));
+    let fault = at_0(routes::prefix_fault(p));
     first_check(fault, rows, n, counts)?;
-    let done = table_update::withdraw(rows, n, value, len)?;
+    let done = table_update::withdraw(rows, n, p)?;
     recount(rows, done, counts);
     Ok(done)
 }

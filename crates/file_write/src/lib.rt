@@ -21,7 +21,7 @@ fn put_bytes(file: &mut [u8], at: usize, r: Route)
     requires { (at + size_for r.len ≤ length file.old) × (r.len ≤ 32) }
     ensures { file.new ≡ stored file.old at (route_bytes 32 r) }
 {
-    put_prefix(file, at, r.value, r.len);
+    put_prefix(file, at, r.prefix());
     put_number(file, at + prefix_size(r.len), 2, r.port as u64);
 }
 

@@ -9,8 +9,10 @@ ghost use Rattle.count_rules.specs.Counted.{make_counts, counted_on};
 ghost use Rattle.refusals.specs.Reply.{reply};
 ghost use Rattle.maftehon.specs.Reply.{replied_place, booked, replied_book};
 
+use prefix::Prefix;
 use refusals::Answer;
 use refusals::reply::{counted, placed};
+use routes::Route;
 
 pub fn mft_counts_make(rows: &[u32], n: u32, counts: &mut [u64], answer: &mut [u32; 1]) -> u32
     ensures { outcome (reply result answer.new) counts.new ≡ replied_place (make_counts five_words 32 rows.now n counts.old) }
@@ -32,7 +34,16 @@ pub fn mft_counted_announce(
     counted(
         Answer::updated(
             n,
-            count_update::announce(rows, n, value, length, port, counts),
+            count_update::announce(
+                rows,
+                n,
+                Route {
+                    value,
+                    len: length,
+                    port,
+                },
+                counts,
+            ),
         ),
         answer,
     )
@@ -49,7 +60,10 @@ pub fn mft_counted_withdraw(
     ensures { booked (reply result answer.new) rows.new counts.new ≡ replied_book (counted_on five_words 32 rows.old n counts.old (single (withdrawing value length))) }
 {
     counted(
-        Answer::updated(n, count_update::withdraw(rows, n, value, length, counts)),
+        Answer::updated(
+            n,
+            count_update::withdraw(rows, n, Prefix { value, len: length }, counts),
+        ),
         answer,
     )
 }

@@ -59,7 +59,7 @@ fn put_prefixes(list: &[u32], message: &mut [u8])
     let mut at = WITHDRAWN_AT;
     for i in 0..list.len() / ROUTE_SIZE {
         let r = route_at(list, i);
-        put_prefix(message, at, r.value, r.len);
+        put_prefix(message, at, r.prefix());
         at += prefix_size(r.len);
     }
 }

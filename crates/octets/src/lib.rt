@@ -170,24 +170,25 @@ pub fn put_number(bytes: &mut [u8], at: usize, k: usize, x: u64)
 }
 
 // Stores a prefix from an offset on, where there is room for it: its length, and the bytes that hold it.
-fn store_prefix(bytes: &mut [u8], at: usize, value: u32, len: u32)
-    requires { (at + prefix_size len ≤ length bytes.old) × (len ≤ 32) }
-    ensures { bytes.new ≡ stored bytes.old at (prefix_octets 32 value len) }
+fn store_prefix(bytes: &mut [u8], at: usize, p: Prefix)
+    requires { (at + prefix_size p.len ≤ length bytes.old) × (p.len ≤ 32) }
+    ensures { bytes.new ≡ stored bytes.old at (prefix_octets 32 p.value p.len) }
 {
-    let k = prefix_bytes(len);
+    let k = prefix_bytes(p.len);
     let gap = 32 - 8 * k;
-    store_number(bytes, at, 1, len as u64);
-    store_number(bytes, at + 1, k, (value as u64) >> gap);
+    store_number(bytes, at, 1, p.len as u64);
+    store_number(bytes, at + 1, k, (p.value as u64) >> gap);
 }
 
 // Stores a prefix from an offset on; nothing where there is no room for it, or its length is above 32.
-pub fn put_prefix(bytes: &mut [u8], at: usize, value: u32, len: u32)
-    ensures { bytes.new ≡ prefix_put 32 bytes.old at value len }
+pub fn put_prefix(bytes: &mut [u8], at: usize, p: Prefix)
+    ensures { bytes.new ≡ prefix_put 32 bytes.old at p.value p.len }
 {
+    let len = p.len;
     if 32 < len {
         return;
     }
     if are_there(bytes.len(), at, prefix_size(len)) {
-        store_prefix(bytes, at, value, len);
+        store_prefix(bytes, at, p);
     }
 }

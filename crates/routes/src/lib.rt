@@ -52,13 +52,14 @@ pub fn is_port(port: u32) -> bool
 }
 
 // Whether a prefix may be a route's. Refuses 4, its length is above 32; 5, bits are set past its length.
-pub fn prefix_fault(value: u32, len: u32) -> Result<(), Fault>
-    ensures { fault_number result ≡ prefix_fault 32 value len 0 }
+pub fn prefix_fault(p: Prefix) -> Result<(), Fault>
+    ensures { fault_number result ≡ prefix_fault 32 p.value p.len 0 }
 {
+    let len = p.len;
     if 32 < len {
         return Err(Fault::LongPrefix);
     }
-    if Prefix::new(value, len).is_clear() {
+    if p.is_clear() {
         Ok(())
     } else {
         Err(Fault::SpareBits)
@@ -69,7 +70,7 @@ pub fn prefix_fault(value: u32, len: u32) -> Result<(), Fault>
 pub fn route_fault(route: Route) -> Result<(), Fault>
     ensures { fault_number result ≡ route_fault 32 route 0 }
 {
-    prefix_fault(route.value, route.len)?;
+    prefix_fault(route.prefix())?;
     if is_port(route.port) {
         Ok(())
     } else {

@@ -6,9 +6,10 @@ ghost use Rattle.std.specs.Prelude.{◌≡◌, ◌-◌, ◌<◌};
 ghost use Rattle.table_rows.specs.Words.{five_words};
 ghost use Rattle.promise.specs.Over.{outcome};
 ghost use Rattle.refusals.specs.Refusals.{answered, updated};
-ghost use Rattle.routes.specs.Routes.{route, route_at};
+ghost use Rattle.routes.specs.Routes.{route_at};
 ghost use Rattle.table_update.specs.Calls.{announce_in, announce_into, prefix_only, withdraw_in, withdraw_into, built_from, build_into};
 
+use prefix::Prefix;
 use refusals::{Fault, Refusal};
 use routes::{ROUTE_SIZE, Route};
 use table_change::refilling::take_route;
@@ -44,10 +45,9 @@ fn withdraw_in(rows: &mut [u32], n: u32, q: Route) -> Result<u32, Refusal>
 
 // Announces a route to a table of n routes; gives the new n. Refuses, at place 0: 4, the length is above 32; 5, bits are set
 // past it; 6, the port is outside 1..4094; 11, the table is not in good order; 9, the prefix is new and the table full.
-pub fn announce(rows: &mut [u32], n: u32, value: u32, len: u32, port: u32) -> Result<u32, Refusal>
-    ensures { outcome (updated n result) rows.new ≡ announce_into five_words 32 rows.old n (route value len port) }
+pub fn announce(rows: &mut [u32], n: u32, q: Route) -> Result<u32, Refusal>
+    ensures { outcome (updated n result) rows.new ≡ announce_into five_words 32 rows.old n q }
 {
-    let q = Route { value, len, port };
     routes::route_fault(q)?;
     check(rows, n)?;
     announce_in(rows, n, q)
@@ -55,17 +55,17 @@ pub fn announce(rows: &mut [u32], n: u32, value: u32, len: u32, port: u32) -> Re
 
 // Withdraws a prefix from a table of n routes; gives the new n. Refuses, at place 0: 4 and 5 as announce does; 11, the table is
 // not in good order; 10, the prefix is not held.
-pub fn withdraw(rows: &mut [u32], n: u32, value: u32, len: u32) -> Result<u32, Refusal>
-    ensures { outcome (updated n result) rows.new ≡ withdraw_into five_words 32 rows.old n value len }
+pub fn withdraw(rows: &mut [u32], n: u32, p: Prefix) -> Result<u32, Refusal>
+    ensures { outcome (updated n result) rows.new ≡ withdraw_into five_words 32 rows.old n p.value p.len }
 {
-    routes::prefix_fault(value, len)?;
+    routes::prefix_fault(p)?;
     check(rows, n)?;
     withdraw_in(
         rows,
         n,
         Route {
-            value,
-            len,
+            value: p.value,
+            len: p.len,
             port: 0,
         },
     )

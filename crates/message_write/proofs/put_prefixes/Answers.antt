@@ -1,4 +1,5 @@
-use mathlib.Core.Path.{◌∙◌}
+use mathlib.Core.Path.{ap, ◌∙◌}
+use Rattle.octets.specs.Octets.{prefix_put}
 use native.Mathlib.Omega.{arith}
 use Rattle.routes.specs.Routes.{route_at, route_count}
 use Rattle.octets.proofs.Store.{prefix_fits}
@@ -19,7 +20,7 @@ overflow_add-at c = let list = c.args.list.now in
 pub loop-i-preserved : goal.loop-i-preserved
 loop-i-preserved c = let list = c.args.list.now in
     let room = listed_room 32 list c.args.message.now c.requires c.loop-i.message c.loop-i.at c.loop-i.i c.loop-i.invariant c.loop-i-test.true _ c.route_at-r.ensures in
-    laid_more (prefix_coding 32) (route_at list) (route_count list) withdrawn_at c.args.message.now c.requires.room c.loop-i.message c.loop-i.at c.loop-i.i c.loop-i.invariant c.loop-i-test.true _ _ _ c.route_at-r.ensures c.prefix_size-at.ensures.is (c.put_prefix.ensures ∙ prefix_fits 32 _ _ _ _ room.1 room.0)
+    laid_more (prefix_coding 32) (route_at list) (route_count list) withdrawn_at c.args.message.now c.requires.room c.loop-i.message c.loop-i.at c.loop-i.i c.loop-i.invariant c.loop-i-test.true _ _ _ c.route_at-r.ensures c.prefix_size-at.ensures.is (c.put_prefix.ensures ∙ ap (λ p. prefix_put 32 c.loop-i.message c.loop-i.at p.value p.len) c.prefix.ensures ∙ prefix_fits 32 _ _ _ _ room.1 room.0)
 
 pub shape_of-message : goal.shape_of-message
 shape_of-message c = c.loop-i.invariant.same

@@ -9,15 +9,15 @@ use Rattle.table_update.proofs.withdraw.Goals as goal
 pub returns-in_err-prefix_fault : goal.returns-in_err-prefix_fault
 returns-in_err-prefix_fault c = let d = c.args in
     let p = err_from_is_err_and c.from_residual.result c.from_residual.ensures.1 in
-    rw (p.1, p.2) (withdraw_fault five_words 32 d.rows.now d.n d.value d.len _ c.in_err-prefix_fault.ensures (number_ne0 _))
+    rw (p.1, p.2) (withdraw_fault five_words 32 d.rows.now d.n d.p.value d.p.len _ c.in_err-prefix_fault.ensures (number_ne0 _))
 
 pub returns-in_err-check : goal.returns-in_err-check
 returns-in_err-check c = let d = c.args in
     let p = err_from_is_err_and c.from_residual-in_err-check.result c.from_residual-in_err-check.ensures.1 in
     let wrong = checked_wrong 32 (capacity d.rows.now) (row_at d.rows.now) d.n _ _ c.in_err-check.ensures in
-    rw (p.1, p.2) (withdraw_wrong five_words 32 d.rows.now d.n d.value d.len c.in_ok-prefix_fault.ensures _ _ wrong)
+    rw (p.1, p.2) (withdraw_wrong five_words 32 d.rows.now d.n d.p.value d.p.len c.in_ok-prefix_fault.ensures _ _ wrong)
 
 pub returns : goal.returns
 returns c = let d = c.args in
     c.withdraw_in.ensures
-    ∙ withdraw_good five_words 32 d.rows.now d.n d.value d.len c.in_ok-prefix_fault.ensures (checked_good 32 (capacity d.rows.now) (row_at d.rows.now) d.n c.in_ok-check.ensures)
+    ∙ withdraw_good five_words 32 d.rows.now d.n d.p.value d.p.len c.in_ok-prefix_fault.ensures (checked_good 32 (capacity d.rows.now) (row_at d.rows.now) d.n c.in_ok-check.ensures)

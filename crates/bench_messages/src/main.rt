@@ -6,116 +6,79 @@
 use message_apply::apply;
 use message_write::write_message;
 use refusals::Answer;
-use routes::route_at;
-use std::io;
+use routes::{Route, route_at};
+use std::{fmt, io};
 use table_save::save;
 
-fn text(rt: &impl Print, s: &[u8]) -> io::Result<()> {
-    rt.write_all(s)
-}
-
-fn decimal(rt: &impl Print, x: u32) -> io::Result<()> {
-    print!(rt; "{x}")
-}
-
-fn number(rt: &impl Print, x: u32) -> io::Result<()> {
-    text(rt, b" ")?;
-    decimal(rt, x)
-}
-
-fn octet(rt: &impl Print, value: u32, after: &[u8]) -> io::Result<()> {
-    decimal(rt, value % 256)?;
-    text(rt, after)
-}
-
-fn show_route(rt: &impl Print, list: &[u32], i: usize) -> io::Result<()> {
-    let r = route_at(list, i);
-    text(rt, b" ")?;
-    octet(rt, r.value / 16777216, b".")?;
-    octet(rt, r.value / 65536, b".")?;
-    octet(rt, r.value / 256, b".")?;
-    octet(rt, r.value, b"/")?;
-    octet(rt, r.len, b":")?;
-    decimal(rt, r.port)
+// The prefix as four octets and a length, and the port.
+fn show_route(rt: &impl Print, route: Route) -> io::Result<()> {
+    let Route { value, len, port } = route;
+    let [a, b, c, d] = value.to_be_bytes();
+    print!(rt; " {a}.{b}.{c}.{d}/{len}:{port}")
 }
 
 fn show_routes(rt: &impl Print, list: &[u32], n: u32) -> io::Result<()> {
-    let mut i: u32 = 0;
-    while i < n {
-        show_route(rt, list, i as usize)?;
-        i += 1;
+    for i in 0..n as usize {
+        show_route(rt, route_at(list, i))?;
     }
-    text(rt, b"\n")
+    println!(rt)
 }
 
-fn show_words(rt: &impl Print, words: &[u32]) -> io::Result<()> {
-    let mut i: usize = 0;
-    while i < words.len() {
-        number(rt, words[i])?;
-        i += 1;
+// All words or all bytes.
+fn show_all<T: fmt::Display>(rt: &impl Print, items: &[T]) -> io::Result<()> {
+    for x in items {
+        print!(rt; " {x}")?;
     }
-    text(rt, b"\n")
+    println!(rt)
 }
 
-fn show_bytes(rt: &impl Print, bytes: &[u8]) -> io::Result<()> {
-    let mut i: usize = 0;
-    while i < bytes.len() {
-        number(rt, bytes[i] as u32)?;
-        i += 1;
-    }
-    text(rt, b"\n")
-}
-
-fn answered(rt: &impl Print, claim: &[u8], a: Answer) -> io::Result<()> {
-    text(rt, claim)?;
-    number(rt, a.number)?;
-    number(rt, a.place)?;
-    number(rt, a.count)
+fn answered(rt: &impl Print, claim: &str, answer: Answer) -> io::Result<()> {
+    let Answer {
+        number,
+        place,
+        count,
+    } = answer;
+    print!(rt; "{claim} {number} {place} {count}")
 }
 
 // A table that is not in good order shows no routes.
-fn shown(rt: &impl Print, claim: &[u8], a: Answer, rows: &[u32]) -> io::Result<u32> {
+fn shown(rt: &impl Print, claim: &str, a: Answer, rows: &[u32]) -> io::Result<u32> {
     let mut list = [0u32; 18];
     answered(rt, claim, a)?;
-    let saved = save(rows, a.count, &mut list);
-    show_routes(rt, &list, saved.count)?;
+    let saved = save(rows, a.count, &mut list).unwrap_or(0);
+    show_routes(rt, &list, saved)?;
     Ok(a.count)
 }
 
 // The first bytes of those lent, as a message.
 fn applied(
     rt: &impl Print,
-    claim: &[u8],
+    claim: &str,
     bytes: &[u8],
     size: usize,
     port: u32,
     rows: &mut [u32],
     n: u32,
 ) -> io::Result<u32> {
-    if size <= bytes.len() {
-        return shown(rt, claim, apply(&bytes[..size], port, rows, n), rows);
-    }
-    Ok(n)
-}
-
-fn put(message: &mut [u8], at: usize, byte: u8) {
-    if at < message.len() {
-        message[at] = byte;
+    match bytes.get(..size) {
+        Some(message) => {
+            let answer = Answer::updated(n, apply(message, port, rows, n));
+            shown(rt, claim, answer, rows)
+        }
+        None => Ok(n),
     }
 }
 
 // The bytes after the marker.
 fn fill(message: &mut [u8], body: &[u8]) {
-    let mut i: usize = 0;
-    while i < body.len() {
-        put(message, 16 + i, body[i]);
-        i += 1;
+    for (to, byte) in message.iter_mut().skip(16).zip(body) {
+        *to = *byte;
     }
 }
 
 fn sent(
     rt: &impl Print,
-    claim: &[u8],
+    claim: &str,
     body: &[u8],
     port: u32,
     rows: &mut [u32],
@@ -126,13 +89,13 @@ fn sent(
     applied(rt, claim, &message, 16 + body.len(), port, rows, n)
 }
 
-fn tried(rt: &impl Print, claim: &[u8], body: &[u8], port: u32) -> io::Result<()> {
+fn tried(rt: &impl Print, claim: &str, body: &[u8], port: u32) -> io::Result<()> {
     sent(rt, claim, body, port, &mut [0u32; 5], 0)?;
     Ok(())
 }
 
 // "six prefixes, with 18 bytes of path attributes"
-fn six(rt: &impl Print, claim: &[u8], rows: &mut [u32]) -> io::Result<u32> {
+fn six(rt: &impl Print, claim: &str, rows: &mut [u32]) -> io::Result<u32> {
     sent(
         rt,
         claim,
@@ -144,10 +107,10 @@ fn six(rt: &impl Print, claim: &[u8], rows: &mut [u32]) -> io::Result<u32> {
 }
 
 fn bird(rt: &impl Print, rows: &mut [u32]) -> io::Result<()> {
-    let one = six(rt, b"bird_announces_six", rows)?;
+    let one = six(rt, "bird_announces_six", rows)?;
     let two = sent(
         rt,
-        b"bird_has_sent_all",
+        "bird_has_sent_all",
         b"\x00\x17\x02\x00\x00\x00\x00",
         2,
         rows,
@@ -155,7 +118,7 @@ fn bird(rt: &impl Print, rows: &mut [u32]) -> io::Result<()> {
     )?;
     let three = sent(
         rt,
-        b"bird_withdraws_all_but_one",
+        "bird_withdraws_all_but_one",
         b"\x00\x28\x02\x00\x11\x00\x10\x0A\x01\x0C\xAC\x10\x1B\xC0\xA8\x05\x00\x20\xCB\x00\x71\x07\x00\x00",
         3,
         rows,
@@ -163,7 +126,7 @@ fn bird(rt: &impl Print, rows: &mut [u32]) -> io::Result<()> {
     )?;
     sent(
         rt,
-        b"bird_announces_two_more",
+        "bird_announces_two_more",
         b"\x00\x31\x02\x00\x00\x00\x12\x40\x01\x01\x00\x40\x02\x04\x02\x01\xFD\xEA\x40\x03\x04\x7F\x00\x00\x02\x09\x0A\x80\x19\xC6\x33\x64\x00",
         4,
         rows,
@@ -173,7 +136,7 @@ fn bird(rt: &impl Print, rows: &mut [u32]) -> io::Result<()> {
 }
 
 // "10.0.0.0/8 withdrawn, and half of it announced"
-fn halved(rt: &impl Print, claim: &[u8], port: u32, rows: &mut [u32], n: u32) -> io::Result<u32> {
+fn halved(rt: &impl Print, claim: &str, port: u32, rows: &mut [u32], n: u32) -> io::Result<u32> {
     sent(
         rt,
         claim,
@@ -187,7 +150,7 @@ fn halved(rt: &impl Print, claim: &[u8], port: u32, rows: &mut [u32], n: u32) ->
 fn exabgp(rt: &impl Print, rows: &mut [u32]) -> io::Result<()> {
     let one = sent(
         rt,
-        b"exabgp_has_nothing_to_send",
+        "exabgp_has_nothing_to_send",
         b"\x00\x17\x02\x00\x00\x00\x00",
         1,
         rows,
@@ -195,7 +158,7 @@ fn exabgp(rt: &impl Print, rows: &mut [u32]) -> io::Result<()> {
     )?;
     let two = sent(
         rt,
-        b"exabgp_announces_six",
+        "exabgp_announces_six",
         b"\x00\x3C\x02\x00\x00\x00\x12\x40\x01\x01\x00\x40\x02\x04\x02\x01\xFD\xEA\x40\x03\x04\xC0\x00\x02\x01\x00\x08\x0A\x0C\xAC\x10\x10\x0A\x01\x19\xC6\x33\x64\x00\x20\xCB\x00\x71\x07",
         2,
         rows,
@@ -203,13 +166,13 @@ fn exabgp(rt: &impl Print, rows: &mut [u32]) -> io::Result<()> {
     )?;
     let three = sent(
         rt,
-        b"exabgp_withdraws_three",
+        "exabgp_withdraws_three",
         b"\x00\x22\x02\x00\x0B\x0C\xAC\x10\x10\x0A\x01\x19\xC6\x33\x64\x00\x00\x00",
         3,
         rows,
         two,
     )?;
-    halved(rt, b"exabgp_halves_one", 4, rows, three)?;
+    halved(rt, "exabgp_halves_one", 4, rows, three)?;
     Ok(())
 }
 
@@ -217,7 +180,7 @@ fn exabgp(rt: &impl Print, rows: &mut [u32]) -> io::Result<()> {
 fn one_row(rt: &impl Print, rows: &mut [u32]) -> io::Result<()> {
     let one = sent(
         rt,
-        b"one_row_for_one",
+        "one_row_for_one",
         b"\x00\x19\x02\x00\x00\x00\x00\x08\x0A",
         1,
         rows,
@@ -225,13 +188,13 @@ fn one_row(rt: &impl Print, rows: &mut [u32]) -> io::Result<()> {
     )?;
     let two = sent(
         rt,
-        b"one_row_for_two_is_refused_9",
+        "one_row_for_two_is_refused_9",
         b"\x00\x1A\x02\x00\x00\x00\x00\x09\x0A\x80",
         2,
         rows,
         one,
     )?;
-    let three = halved(rt, b"a_withdrawn_route_leaves_its_row", 3, rows, two)?;
+    let three = halved(rt, "a_withdrawn_route_leaves_its_row", 3, rows, two)?;
     met(rt, rows, three)
 }
 
@@ -239,7 +202,7 @@ fn one_row(rt: &impl Print, rows: &mut [u32]) -> io::Result<()> {
 fn met(rt: &impl Print, rows: &mut [u32], n: u32) -> io::Result<()> {
     let four = sent(
         rt,
-        b"in_both_parts_it_is_announced",
+        "in_both_parts_it_is_announced",
         b"\x00\x1D\x02\x00\x03\x09\x0A\xC8\x00\x00\x09\x0A\x80",
         4,
         rows,
@@ -247,7 +210,7 @@ fn met(rt: &impl Print, rows: &mut [u32], n: u32) -> io::Result<()> {
     )?;
     let five = sent(
         rt,
-        b"announced_twice_it_is_one",
+        "announced_twice_it_is_one",
         b"\x00\x1D\x02\x00\x00\x00\x00\x09\x0A\x80\x09\x0A\xFF",
         5,
         rows,
@@ -255,7 +218,7 @@ fn met(rt: &impl Print, rows: &mut [u32], n: u32) -> io::Result<()> {
     )?;
     sent(
         rt,
-        b"withdrawn_twice_it_is_gone",
+        "withdrawn_twice_it_is_gone",
         b"\x00\x1D\x02\x00\x06\x09\x0A\x80\x09\x0A\xFF\x00\x00",
         6,
         rows,
@@ -267,31 +230,31 @@ fn met(rt: &impl Print, rows: &mut [u32], n: u32) -> io::Result<()> {
 fn heads(rt: &impl Print) -> io::Result<()> {
     tried(
         rt,
-        b"22_bytes_are_refused_14",
+        "22_bytes_are_refused_14",
         b"\x00\x16\x02\x00\x00\x00",
         1,
     )?;
     tried(
         rt,
-        b"a_byte_less_than_it_says_is_refused_14",
+        "a_byte_less_than_it_says_is_refused_14",
         b"\x00\x18\x02\x00\x00\x00\x00",
         1,
     )?;
     tried(
         rt,
-        b"another_type_is_refused_14",
+        "another_type_is_refused_14",
         b"\x00\x17\x04\x00\x00\x00\x00",
         1,
     )?;
     tried(
         rt,
-        b"one_byte_after_the_withdrawn_part_is_refused_14",
+        "one_byte_after_the_withdrawn_part_is_refused_14",
         b"\x00\x17\x02\x00\x01\x00\x00",
         1,
     )?;
     tried(
         rt,
-        b"attributes_past_the_end_are_refused_14",
+        "attributes_past_the_end_are_refused_14",
         b"\x00\x17\x02\x00\x00\x00\x01",
         1,
     )
@@ -300,10 +263,10 @@ fn heads(rt: &impl Print) -> io::Result<()> {
 fn unmarked(rt: &impl Print, rows: &mut [u32]) -> io::Result<()> {
     let mut message = [255u8; 23];
     fill(&mut message, b"\x00\x17\x02\x00\x00\x00\x00");
-    put(&mut message, 15, 254);
+    message[15] = 254;
     applied(
         rt,
-        b"a_marker_of_15_ones_is_refused_14",
+        "a_marker_of_15_ones_is_refused_14",
         &message,
         23,
         1,
@@ -316,19 +279,19 @@ fn unmarked(rt: &impl Print, rows: &mut [u32]) -> io::Result<()> {
 fn prefixes(rt: &impl Print) -> io::Result<()> {
     tried(
         rt,
-        b"length_33_is_refused_4",
+        "length_33_is_refused_4",
         b"\x00\x1B\x02\x00\x00\x00\x00\x08\x0A\x21\x0A",
         1,
     )?;
     tried(
         rt,
-        b"a_prefix_past_its_part_is_refused_14",
+        "a_prefix_past_its_part_is_refused_14",
         b"\x00\x18\x02\x00\x01\x08\x00\x00",
         1,
     )?;
     tried(
         rt,
-        b"port_0_is_refused_6",
+        "port_0_is_refused_6",
         b"\x00\x17\x02\x00\x00\x00\x00",
         0,
     )
@@ -338,14 +301,14 @@ fn prefixes(rt: &impl Print) -> io::Result<()> {
 fn kept(rt: &impl Print, rows: &mut [u32]) -> io::Result<()> {
     sent(
         rt,
-        b"another_order_is_refused_11",
+        "another_order_is_refused_11",
         b"\x00\x17\x02\x00\x00\x00\x00",
         1,
         rows,
         1,
     )?;
-    six(rt, b"five_rows_for_six_are_refused_9", rows)?;
-    show_words(rt, rows)
+    six(rt, "five_rows_for_six_are_refused_9", rows)?;
+    show_all(rt, rows)
 }
 
 // /0, 10.0.0.0/8 and 203.0.113.7/32 take 1, 2 and 5 bytes: 31 with the head.
@@ -353,23 +316,23 @@ fn written(rt: &impl Print, message: &mut [u8]) -> io::Result<()> {
     let list = [0, 0, 1, 167772160, 8, 1, 3405803783, 32, 1];
     answered(
         rt,
-        b"room_for_30_is_refused_9",
-        write_message(&list, &mut [0u8; 30]),
+        "room_for_30_is_refused_9",
+        Answer::from(write_message(&list, &mut [0u8; 30])),
     )?;
-    text(rt, b"\n")?;
+    println!(rt)?;
     answered(
         rt,
-        b"three_are_withdrawn_in_31",
-        write_message(&list, message),
+        "three_are_withdrawn_in_31",
+        Answer::from(write_message(&list, message)),
     )?;
-    show_bytes(rt, message)
+    show_all(rt, message)
 }
 
 fn applied_again(rt: &impl Print, message: &[u8], rows: &mut [u32]) -> io::Result<()> {
-    let n = six(rt, b"six_are_held", rows)?;
+    let n = six(rt, "six_are_held", rows)?;
     applied(
         rt,
-        b"the_written_message_leaves_three",
+        "the_written_message_leaves_three",
         message,
         31,
         1,

@@ -2,8 +2,8 @@
 // are refused; a longer route below a shorter one that comes and goes; and one that the place of a withdrawn one is filled with.
 #![tactic(auto)]
 
+use refusals::Answer;
 use refusals::found::Found;
-use refusals::{Answer, Refusal};
 use std::io;
 use table_lookup::lookup;
 use table_update::{announce, build, withdraw};
@@ -29,9 +29,31 @@ fn show(rt: &impl Print, claim: &str, answer: Answer) -> io::Result<()> {
     println!(rt; "{claim} {number} {place} {count}")
 }
 
-// A change of a table of n routes.
-fn changed(rt: &impl Print, claim: &str, n: u32, x: Result<u32, Refusal>) -> io::Result<()> {
-    show(rt, claim, Answer::updated(n, x))
+fn announced(
+    rt: &impl Print,
+    claim: &str,
+    rows: &mut [u32],
+    n: u32,
+    value: u32,
+    len: u32,
+    port: u32,
+) -> io::Result<()> {
+    show(
+        rt,
+        claim,
+        Answer::updated(n, announce(rows, n, value, len, port)),
+    )
+}
+
+fn withdrawn(
+    rt: &impl Print,
+    claim: &str,
+    rows: &mut [u32],
+    n: u32,
+    value: u32,
+    len: u32,
+) -> io::Result<()> {
+    show(rt, claim, Answer::updated(n, withdraw(rows, n, value, len)))
 }
 
 // A line of all the words: five for each row.
@@ -55,84 +77,51 @@ fn show_port(rt: &impl Print, claim: &str, rows: &[u32], n: u32, address: u32) -
 // 6, row 9 is zeros."
 fn example_8(rt: &impl Print) -> io::Result<()> {
     let mut rows = TABLE_I;
-    changed(
-        rt,
-        "100110_is_withdrawn",
-        10,
-        withdraw(&mut rows, 10, 2550136832, 6),
-    )?;
+    withdrawn(rt, "100110_is_withdrawn", &mut rows, 10, 2550136832, 6)?;
     show_words(rt, &rows)?;
-    changed(
-        rt,
-        "and_announced_again",
-        9,
-        announce(&mut rows, 9, 2550136832, 6, 1),
-    )?;
+    announced(rt, "and_announced_again", &mut rows, 9, 2550136832, 6, 1)?;
     show_words(rt, &rows)?;
-    changed(
+    announced(
         rt,
         "a_held_prefix_gets_the_new_port",
+        &mut rows,
         10,
-        announce(&mut rows, 10, 2550136832, 6, 4094),
+        2550136832,
+        6,
+        4094,
     )?;
     show_port(rt, "which_the_lookup_answers", &rows, 10, 2550136832)
 }
 
 fn refusals(rt: &impl Print) -> io::Result<()> {
     let mut rows = TABLE_I;
-    changed(rt, "length_33", 10, announce(&mut rows, 10, 0, 33, 1))?;
-    changed(
-        rt,
-        "bits_past_the_length",
-        10,
-        announce(&mut rows, 10, 1, 31, 1),
-    )?;
-    changed(rt, "port_0", 10, announce(&mut rows, 10, 0, 1, 0))?;
-    changed(rt, "port_4095", 10, announce(&mut rows, 10, 0, 1, 4095))?;
-    changed(
-        rt,
-        "not_in_good_order",
-        11,
-        announce(&mut rows, 11, 0, 1, 1),
-    )?;
-    changed(
-        rt,
-        "withdrawal_of_length_33",
-        10,
-        withdraw(&mut rows, 10, 0, 33),
-    )?;
-    changed(
+    announced(rt, "length_33", &mut rows, 10, 0, 33, 1)?;
+    announced(rt, "bits_past_the_length", &mut rows, 10, 1, 31, 1)?;
+    announced(rt, "port_0", &mut rows, 10, 0, 1, 0)?;
+    announced(rt, "port_4095", &mut rows, 10, 0, 1, 4095)?;
+    announced(rt, "not_in_good_order", &mut rows, 11, 0, 1, 1)?;
+    withdrawn(rt, "withdrawal_of_length_33", &mut rows, 10, 0, 33)?;
+    withdrawn(
         rt,
         "withdrawal_with_bits_past_the_length",
+        &mut rows,
         10,
-        withdraw(&mut rows, 10, 1, 31),
+        1,
+        31,
     )?;
-    changed(
+    withdrawn(
         rt,
         "withdrawal_from_a_table_not_in_good_order",
+        &mut rows,
         11,
-        withdraw(&mut rows, 11, 0, 2),
+        0,
+        2,
     )?;
-    changed(
-        rt,
-        "withdrawal_of_a_prefix_not_held",
-        10,
-        withdraw(&mut rows, 10, 0, 1),
-    )?;
-    changed(
-        rt,
-        "two_rows_are_free",
-        10,
-        announce(&mut rows, 10, 0, 1, 1),
-    )?;
-    changed(rt, "now_one", 11, announce(&mut rows, 11, 0, 3, 1))?;
-    changed(rt, "now_none", 12, announce(&mut rows, 12, 0, 4, 1))?;
-    changed(
-        rt,
-        "but_a_held_prefix_needs_none",
-        12,
-        announce(&mut rows, 12, 0, 3, 2),
-    )
+    withdrawn(rt, "withdrawal_of_a_prefix_not_held", &mut rows, 10, 0, 1)?;
+    announced(rt, "two_rows_are_free", &mut rows, 10, 0, 1, 1)?;
+    announced(rt, "now_one", &mut rows, 11, 0, 3, 1)?;
+    announced(rt, "now_none", &mut rows, 12, 0, 4, 1)?;
+    announced(rt, "but_a_held_prefix_needs_none", &mut rows, 12, 0, 3, 2)
 }
 
 // The longer route leaves no trace where the search no longer comes.
@@ -151,17 +140,12 @@ fn nested(rt: &impl Print) -> io::Result<()> {
     show_words(rt, &rows)?;
     show_port(rt, "0110_goes_to_the_longest", &rows, 3, 1610612736)?;
     show_port(rt, "0111_to_the_shorter", &rows, 3, 1879048192)?;
-    changed(
-        rt,
-        "the_longest_is_withdrawn",
-        3,
-        withdraw(&mut rows, 3, 1610612736, 4),
-    )?;
+    withdrawn(rt, "the_longest_is_withdrawn", &mut rows, 3, 1610612736, 4)?;
     show_words(rt, &rows)?;
     show_port(rt, "0110_goes_to_the_shorter", &rows, 2, 1610612736)?;
-    changed(rt, "then_the_whole_space", 2, withdraw(&mut rows, 2, 0, 0))?;
+    withdrawn(rt, "then_the_whole_space", &mut rows, 2, 0, 0)?;
     show_port(rt, "1_goes_nowhere", &rows, 1, 2147483648)?;
-    changed(rt, "then_the_last", 1, withdraw(&mut rows, 1, 0, 1))?;
+    withdrawn(rt, "then_the_last", &mut rows, 1, 0, 1)?;
     show_words(rt, &rows)
 }
 
@@ -174,12 +158,7 @@ fn hidden(rt: &impl Print) -> io::Result<()> {
         "three_routes_one_hidden",
         Answer::from(build(&NESTED, &mut rows)),
     )?;
-    changed(
-        rt,
-        "the_whole_space_is_withdrawn",
-        3,
-        withdraw(&mut rows, 3, 0, 0),
-    )?;
+    withdrawn(rt, "the_whole_space_is_withdrawn", &mut rows, 3, 0, 0)?;
     show_words(rt, &rows)?;
     show_port(rt, "0110_is_at_the_root", &rows, 2, 1610612736)?;
     show_port(rt, "0111_goes_on_to_the_shorter", &rows, 2, 1879048192)?;

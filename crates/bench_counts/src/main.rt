@@ -4,7 +4,9 @@
 
 use count_make::make;
 use count_update::{announce, apply, withdraw};
+use prefix::Prefix;
 use refusals::Answer;
+use routes::Route;
 use std::io;
 
 fn elements(rt: &impl Print, counts: &[u64]) -> io::Result<()> {
@@ -41,7 +43,7 @@ fn put(
     port: u32,
     counts: &mut [u64],
 ) -> io::Result<()> {
-    let answer = Answer::updated(n, announce(rows, n, value, len, port, counts));
+    let answer = Answer::updated(n, announce(rows, n, Route { value, len, port }, counts));
     show(rt, claim, answer, counts)
 }
 
@@ -52,7 +54,7 @@ fn take(
     n: u32,
     counts: &mut [u64],
 ) -> io::Result<()> {
-    let answer = Answer::updated(n, withdraw(rows, n, 0, 0, counts));
+    let answer = Answer::updated(n, withdraw(rows, n, Prefix::WHOLE, counts));
     show(rt, claim, answer, counts)
 }
 

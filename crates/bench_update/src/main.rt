@@ -2,8 +2,10 @@
 // are refused; a longer route below a shorter one that comes and goes; and one that the place of a withdrawn one is filled with.
 #![tactic(auto)]
 
+use prefix::Prefix;
 use refusals::Answer;
 use refusals::found::Found;
+use routes::Route;
 use std::io;
 use table_lookup::lookup;
 use table_update::{announce, build, withdraw};
@@ -41,7 +43,7 @@ fn announced(
     show(
         rt,
         claim,
-        Answer::updated(n, announce(rows, n, value, len, port)),
+        Answer::updated(n, announce(rows, n, Route { value, len, port })),
     )
 }
 
@@ -53,7 +55,11 @@ fn withdrawn(
     value: u32,
     len: u32,
 ) -> io::Result<()> {
-    show(rt, claim, Answer::updated(n, withdraw(rows, n, value, len)))
+    show(
+        rt,
+        claim,
+        Answer::updated(n, withdraw(rows, n, Prefix { value, len })),
+    )
 }
 
 // A line of all the words: five for each row.

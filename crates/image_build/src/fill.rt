@@ -16,7 +16,7 @@ ghost use Rattle.image_build.specs.Needs.{most_slots, ImageRoom};
 use entries::fill;
 use image_nodes::{NodeWords, node_at, store_node};
 use image_numbers::{Distance, Leaf, Node};
-use image_search::{address_of, find_slot, goes_on, leaf_port, search_after, search_from};
+use image_search::{Slots, address_of, goes_on, leaf_port};
 use image_stretch::{Filled, Free, HALF_WORD, Stretch};
 
 // Two numbers in one word.
@@ -147,8 +147,15 @@ impl Source<'_> {
     {
         let address = address_of(self.list, x);
         let depth = x.depth + self.stride;
+        let node = Slots {
+            list: self.list,
+            x,
+            address,
+            depth,
+            slots: self.slots,
+        };
         let mut j = 0;
-        let mut search = search_from(self.list, x, x.lo, address, depth, self.slots);
+        let mut search = node.search_from(x.lo);
         let mut kept = at.leaf.0;
         let mut st = Filled {
             bitmap: 0,
@@ -161,11 +168,11 @@ impl Source<'_> {
                 j = search.clear;
                 continue;
             }
-            let y = find_slot(self.list, x, search, address, depth, j);
+            let y = node.find_slot(search, j);
             let before = st.leaf;
             st = fill_slot(self.list, y, nodes, ports, kept, x.best, st);
             kept = kept_after(kept, before, st.leaf);
-            search = search_after(self.list, x, search.short, y, address, depth, self.slots);
+            search = node.search_after(search.short, y);
             j += 1;
         }
         fill(ports, kept, st.leaf.0, x.best as u16);

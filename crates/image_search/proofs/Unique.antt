@@ -3,12 +3,12 @@ use mathlib.Core.Path.{sym, ◌∙◌}
 use Rattle.promise.specs.Determined.{Determined}
 use Rattle.image_search.proofs.address_of.Kinds as address_of_kinds
 use Rattle.image_search.proofs.address_of.Reads as address_of_reads
-use Rattle.image_search.proofs.find_slot.Kinds as find_slot_kinds
-use Rattle.image_search.proofs.find_slot.Reads as find_slot_reads
-use Rattle.image_search.proofs.search_from.Kinds as search_from_kinds
-use Rattle.image_search.proofs.search_from.Reads as search_from_reads
-use Rattle.image_search.proofs.search_after.Kinds as search_after_kinds
-use Rattle.image_search.proofs.search_after.Reads as search_after_reads
+use Rattle.image_search.proofs.Slots.find_slot.Kinds as find_slot_kinds
+use Rattle.image_search.proofs.Slots.find_slot.Reads as find_slot_reads
+use Rattle.image_search.proofs.Slots.search_from.Kinds as search_from_kinds
+use Rattle.image_search.proofs.Slots.search_from.Reads as search_from_reads
+use Rattle.image_search.proofs.Slots.search_after.Kinds as search_after_kinds
+use Rattle.image_search.proofs.Slots.search_after.Reads as search_after_reads
 use Rattle.image_search.proofs.goes_on.Kinds as goes_on_kinds
 use Rattle.image_search.proofs.goes_on.Reads as goes_on_reads
 use Rattle.image_search.proofs.leaf_port.Kinds as leaf_port_kinds

@@ -121,84 +121,74 @@ pub fn address_of(list: &[u32], x: Stretch) -> u32
     Prefix::new(route_at(list, x.lo).value, x.depth).first()
 }
 
-// The stretch of slot j of the node that begins at an address: the slot's bits are its prefix.
-pub fn find_slot(
-    list: &[u32],
-    x: Stretch,
-    search: Search,
-    address: u32,
-    depth: u32,
-    j: u32,
-) -> Stretch
-    ensures { result ≡ slot_stretch_at 32 (route_at list.now) x search.short search.route (slot_address 32 address depth j) depth }
-{
-    let span = 1u64 << bits_past(depth);
-    let value = (address as u64 + j as u64 * span) % 4294967296;
-    slot_stretch(
-        list,
-        x,
-        search.short,
-        search.route,
-        Prefix::new(value as u32, depth),
-    )
+// A node's slots: the node's stretch x of a list, its first address, the length of the slots' prefixes, and how many slots there are.
+#[derive(Clone, Copy)]
+pub struct Slots<'a> {
+    pub list: &'a [u32],
+    pub x: Stretch,
+    pub address: u32,
+    pub depth: u32,
+    pub slots: u32,
 }
 
-// Of a node's slots, how many come before the one in which its next route lies; all of them if it has no such route.
-fn clear_to(list: &[u32], x: Stretch, at: usize, address: u32, depth: u32, slots: u32) -> u32
-    ensures { result ≡ clear_to 32 (route_at list.now) slots x at address depth }
-{
-    if x.hi <= at {
-        return slots;
+impl Slots<'_> {
+    // The stretch of slot j: the slot's bits are its prefix.
+    pub fn find_slot(self, search: Search, j: u32) -> Stretch
+        ensures { result ≡ slot_stretch_at 32 (route_at self.entry.list.now) self.entry.x search.short search.route (slot_address 32 self.entry.address self.entry.depth j) self.entry.depth }
+    {
+        let span = 1u64 << bits_past(self.depth);
+        let value = (self.address as u64 + j as u64 * span) % 4294967296;
+        slot_stretch(
+            self.list,
+            self.x,
+            search.short,
+            search.route,
+            Prefix::new(value as u32, self.depth),
+        )
     }
-    let value = route_at(list, at).value;
-    if value < address {
-        return 0;
-    }
-    let slot = ((value - address) as u64) >> bits_past(depth);
-    if slots as u64 <= slot {
-        return slots;
-    }
-    slot as u32
-}
 
-// The search from route `at` on, where no route of the node before it may match a slot.
-pub fn search_from(
-    list: &[u32],
-    x: Stretch,
-    at: usize,
-    address: u32,
-    depth: u32,
-    slots: u32,
-) -> Search
-    ensures { result ≡ search_from 32 (route_at list.now) slots x at address depth }
-{
-    Search {
-        short: at,
-        route: at,
-        clear: clear_to(list, x, at, address, depth, slots),
+    // How many slots come before the one in which the next route lies, which is that at `at`; all of them if the node has no such route.
+    fn clear_to(self, at: usize) -> u32
+        ensures { result ≡ clear_to 32 (route_at self.entry.list.now) self.entry.slots self.entry.x at self.entry.address self.entry.depth }
+    {
+        if self.x.hi <= at {
+            return self.slots;
+        }
+        let value = route_at(self.list, at).value;
+        if value < self.address {
+            return 0;
+        }
+        let slot = ((value - self.address) as u64) >> bits_past(self.depth);
+        if self.slots as u64 <= slot {
+            return self.slots;
+        }
+        slot as u32
     }
-}
 
-// The search after the slot with the stretch y. The routes in a slot match no later one, and what the search passes on the way to a
-// slot is shorter than the slots, and may match all that follow.
-pub fn search_after(
-    list: &[u32],
-    x: Stretch,
-    short: usize,
-    y: Stretch,
-    address: u32,
-    depth: u32,
-    slots: u32,
-) -> Search
-    ensures { result ≡ search_after 32 (route_at list.now) slots x short y address depth }
-{
-    if y.lo == short {
-        return search_from(list, x, y.hi, address, depth, slots);
+    // The search from route `at` on, where no route of the node before it may match a slot.
+    pub fn search_from(self, at: usize) -> Search
+        ensures { result ≡ search_from 32 (route_at self.entry.list.now) self.entry.slots self.entry.x at self.entry.address self.entry.depth }
+    {
+        Search {
+            short: at,
+            route: at,
+            clear: self.clear_to(at),
+        }
     }
-    Search {
-        short,
-        route: y.hi,
-        clear: 0,
+
+    // The search after the slot with the stretch y. The routes in a slot match no later one, and what the search passes on the way to a
+    // slot is shorter than the slots, and may match all that follow.
+    pub fn search_after(self, short: usize, y: Stretch) -> Search
+        ensures { result ≡ search_after 32 (route_at self.entry.list.now) self.entry.slots self.entry.x short y self.entry.address self.entry.depth }
+    {
+        if y.lo == short {
+            return self.search_from(y.hi);
+        }
+        Search {
+            short,
+            route: y.hi,
+            clear: 0,
+        }
     }
 }
 

@@ -7,7 +7,7 @@ use Rattle.prefix.specs.Prefixes.{prefix}
 use Rattle.prefix.specs.declared.Prefix.{Prefix}
 use Rattle.routes.specs.Routes.{route_at}
 use Rattle.image_stretch.specs.Stretches.{slot_stretch_at}
-use Rattle.image_search.proofs.find_slot.Goals as goal
+use Rattle.image_search.proofs.Slots.find_slot.Goals as goal
 
 -- the shift of the code
 span_is : (k : ℕ) → k ≤ 32 → 1 * 2 ^ k % 2 ^ 64 ≡ 2 ^ k
@@ -29,6 +29,6 @@ pub returns : goal.returns
 returns c = let a = c.args in
     let b = c.bits_past in
     c.slot_stretch.ensures
-    ∙ ap (λ (p : Prefix). slot_stretch_at 32 (route_at a.list.now) a.x a.search.short a.search.route p.value p.len)
+    ∙ ap (λ (p : Prefix). slot_stretch_at 32 (route_at a.self.list.now) a.self.x a.search.short a.search.route p.value p.len)
     (c.new.ensures
-    ∙ ap (λ (n : ℕ). prefix ((a.address + a.j * n) % 2 ^ 32) a.depth) (span_is b.result b.ensures.1 ∙ ap (λ (k : ℕ). 2 ^ k) b.ensures.0))
+    ∙ ap (λ (n : ℕ). prefix ((a.self.address + a.j * n) % 2 ^ 32) a.self.depth) (span_is b.result b.ensures.1 ∙ ap (λ (k : ℕ). 2 ^ k) b.ensures.0))

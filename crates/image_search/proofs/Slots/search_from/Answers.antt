@@ -1,4 +1,4 @@
-use Rattle.image_search.proofs.search_from.Goals as goal
+use Rattle.image_search.proofs.Slots.search_from.Goals as goal
 
 pub returns : goal.returns
 returns c = let a = c.args in λ i. record { short = a.at; route = a.at; clear = c.clear_to.ensures i }

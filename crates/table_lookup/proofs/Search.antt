@@ -73,8 +73,8 @@ module _ (w capacity : ℕ) (M : Mem) (n a d r best : ℕ) (s : Searching w capa
       goes : onto best' ≡ all
       goes = ap onto eq ∙ (rw (fine, on) at (visited m em))
 
-      last : d ≡ w → found best' (d + 1) ≡ all
-      last z =
+      pub to_last : d ≡ w → found best' (d + 1) ≡ all
+      to_last z =
           let none : 0 ≡ w - d = omega (arith, z) in
           ap (λ (k : ℕ). after w M n a k r (d + 1) best') none ∙ goes
 
@@ -91,7 +91,7 @@ module _ (w capacity : ℕ) (M : Mem) (n a d r best : ℕ) (s : Searching w capa
         pub to_stop : c ≡ 0 → found best' (d + 1) ≡ all
         to_stop z = ⊎_elim
             (λ (l : d < w). rw (eq-eqb c 0 z) at (on_child l))
-            (λ (l : w ≤ d). last (omega arith))
+            (λ (l : w ≤ d). to_last (omega arith))
             (lt_or_le d w)
 
         pub to_next : (c ≡ 0 → ⊥) → Searching w capacity M n a (d + 1) c best'
@@ -101,7 +101,7 @@ module _ (w capacity : ℕ) (M : Mem) (n a d r best : ℕ) (s : Searching w capa
               few = s.few;
               rest = ⊎_elim
                   (λ (l : d < w). rw (le-leb (d + 1) w (omega arith)) (rw (ne_eqb c 0 z) at (on_child l)))
-                  (λ (l : w ≤ d). rw (lt-leb (d + 1) w (omega arith)) (last (omega arith)))
+                  (λ (l : w ≤ d). rw (lt-leb (d + 1) w (omega arith)) (to_last (omega arith)))
                   (lt_or_le d w);
             }
 

@@ -4,6 +4,7 @@ use native.Mathlib.Omega.{arith}
 use Rattle.std.proofs.lemmas.Result.{err_from_is_err_and}
 use Rattle.refusals.specs.Refusals.{refused}
 use Rattle.refusals.proofs.Numbers.{number_ne0}
+use Rattle.file_read.specs.Step.{stepped}
 use Rattle.file_rules.proofs.Walk.{check_unheaded}
 use Rattle.file_read.proofs.Steps.{reached_none, reached_small, reached_more, reached_refused, reached_all}
 use Rattle.file_read.proofs.check_file.Goals as goal
@@ -22,16 +23,15 @@ step_at-requires c = let file = c.args.file.now in
 
 pub loop-c-smaller : goal.loop-c-smaller
 loop-c-smaller c = let file = c.args.file.now in
-    omega (arith, (reached_more 32 file c.loop-c.c c.loop-c.invariant _ (sym c.in_ok-c.ensures)).1, c.loop-c-test.true)
+    omega (arith, (reached_more 32 file c.loop-c.c c.loop-c.invariant _ (sym c.step_at.ensures ∙ ap stepped c.in-Ok.is)).1, c.loop-c-test.true)
 
 pub loop-c-preserved : goal.loop-c-preserved
 loop-c-preserved c = let file = c.args.file.now in
-    (reached_more 32 file c.loop-c.c c.loop-c.invariant _ (sym c.in_ok-c.ensures)).0
+    (reached_more 32 file c.loop-c.c c.loop-c.invariant _ (sym c.step_at.ensures ∙ ap stepped c.in-Ok.is)).0
 
-pub returns-in_err-c : goal.returns-in_err-c
-returns-in_err-c c = let file = c.args.file.now in
-    let p = err_from_is_err_and c.from_residual-in_err-c.result c.from_residual-in_err-c.ensures.1 in
-    rw (p.1, p.2) (reached_refused 32 file c.loop-c.c c.loop-c.invariant _ (sym c.in_ok-head_fault.ensures) c.loop-c-test.true (sym c.in_err-c.ensures))
+pub returns-in-Err : goal.returns-in-Err
+returns-in-Err c = let file = c.args.file.now in
+    reached_refused 32 file c.loop-c.c c.loop-c.invariant _ (sym c.in_ok-head_fault.ensures) c.loop-c-test.true (sym c.step_at.ensures ∙ ap stepped c.in-Err.is)
 
 pub returns : goal.returns
 returns c = let file = c.args.file.now in

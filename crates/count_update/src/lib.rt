@@ -104,7 +104,9 @@ fn at_0(fault: Result<(), Fault>) -> Result<(), Refusal>
 fn message_fault(message: &[u8], port: u32) -> Result<(), Refusal>
     ensures { (n : ℕ) → passed n result ≡ message_fault 32 message.now port n }
 {
-    check_message(message)?;
+    if let Err(refusal) = check_message(message) {
+        return Err(refusal);
+    }
     if is_port(port) {
         Ok(())
     } else {

@@ -58,10 +58,7 @@ pub fn make(rows: &[u32], n: u32, counts: &mut [u64]) -> Result<(), Refusal>
     }
     let mut runs = [0u32; RUNS_SIZE];
     // There is room for all runs that a table can have, so that this refuses a table that is not in good order, and no other.
-    let count = match table_runs(rows, n, &mut runs) {
-        Ok(count) => count,
-        Err(refusal) => return Err(refusal),
-    };
+    let count = table_runs(rows, n, &mut runs)?;
     clear_counts(counts);
     add_runs(counts, &runs, count as usize);
     Ok(())

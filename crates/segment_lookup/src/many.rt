@@ -41,7 +41,13 @@ impl Lookup for Tables<'_> {
             return UNFOUND;
         }
         let at = (address / 65536) as usize;
-        first_element(self.packed, self.plain, self.last, u32::from(self.first[at]), address)
+        first_element(
+            self.packed,
+            self.plain,
+            self.last,
+            u32::from(self.first[at]),
+            address,
+        )
     }
 }
 

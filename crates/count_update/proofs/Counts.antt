@@ -1,5 +1,6 @@
 -- Counts compared and stored one by one, and the first checks. Assumes nothing.
 use mathlib.Core.Path.{◌≡◌, refl, sym, ap, ◌∙◌}
+use mathlib.Core.Logic.{◌⊎◌, inl, inr}
 use mathlib.Core.Bool.{Bool, true, false, not}
 use mathlib.Core.List.{List}
 use Prim.Native.Nat.{ℕ, ◌+◌, ◌≤◌, ◌<◌}
@@ -27,7 +28,7 @@ use Rattle.message_check.specs.Checked.{checked_of}
 use Rattle.message_check.specs.Checked.{Checked}
 use Rattle.message_check.proofs.Whole.{checked_answer}
 use Rattle.count_rules.specs.Tally.{ports, differ}
-use Rattle.count_rules.specs.Counted.{message_fault, counts_of, make_counts, first_check, recounted}
+use Rattle.count_rules.specs.Counted.{message_fault, counts_of, make_counts, passed, first_check, recounted}
 use Rattle.count_rules.proofs.Counted.{length_counts, first_passed}
 use Rattle.count_rules.proofs.History.{MadeAfresh, made_afresh}
 
@@ -126,6 +127,13 @@ module _ (L : Layout (List ℕ)) (w : ℕ) (fault : Answer) (words : List ℕ) (
         first_accepted t =
             sym (first_passed L w fault words n counts (record { room = room; none = none; good = afresh.good; same = sym (ap (differ counts) fresh_is) ∙ t }))
 
+  -- with no room for the counts, and with no refusal of the arguments, any answer will do
+  pub first_any : ((fault.number ≡ 0 → ⊥) × length counts < ports) ⊎ (fault.number ≡ 0)
+      → first_check L w (accepted n) words n counts ≡ first_check L w fault words n counts
+  unfolding first_check
+  first_any (inl (wrong, short)) = rw (lt-leb ports (length counts) short)
+  first_any (inr none) = rw (eq-eqb fault.number 0 none)
+
 -- what a message is refused with
 
 module _ (message : List ℕ) (port n : ℕ) (checked : Checked) (checked-is : checked ≡ checked_of 32 message) where
@@ -156,3 +164,8 @@ refused_ne0 (Err r) t z = number_ne0 r.fault z
 pub fine_0 : (x : Result Unit Refusal) → is_err x ≡ false → (checked x).number ≡ 0
 fine_0 (Ok u) f = refl
 fine_0 (Err r) f = cc
+
+-- what the first checks returned, as an answer
+pub passed_told : (n : ℕ) (x : Result Unit Refusal) → keeping_at (checked x).number (checked x).place n ≡ passed n x
+passed_told n (Ok u) = refl
+passed_told n (Err r) = refl

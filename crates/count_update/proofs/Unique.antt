@@ -8,12 +8,18 @@ use Rattle.refusals.specs.Refusals.{updated}
 use Rattle.refusals.proofs.Numbers.{updated_one}
 use Rattle.promise.specs.Determined.{Determined}
 use Rattle.count_rules.specs.Counted.{Counted, counted}
+use Rattle.count_update.proofs.first_check.Kinds as first_check_kinds
+use Rattle.count_update.proofs.first_check.Reads as first_check_reads
 use Rattle.count_update.proofs.announce.Kinds as announce_kinds
 use Rattle.count_update.proofs.announce.Reads as announce_reads
 use Rattle.count_update.proofs.withdraw.Kinds as withdraw_kinds
 use Rattle.count_update.proofs.withdraw.Reads as withdraw_reads
 use Rattle.count_update.proofs.apply.Kinds as apply_kinds
 use Rattle.count_update.proofs.apply.Reads as apply_reads
+
+-- it writes nothing
+first_check_unique : Determined 2 first_check_kinds.ps first_check_kinds.r first_check_reads.Post (λ κs x s. x)
+first_check_unique κs a x y s t p q = p ∙ sym q
 
 -- what an update returns, and the two memories that it leaves
 record Left : Type 0 where

@@ -16,7 +16,7 @@ use count_make::make;
 use count_rules::PORTS;
 use message_check::check_message;
 use prefix::Prefix;
-use refusals::{Fault, Refusal};
+use refusals::{Answer, Fault, Refusal};
 use routes::{Route, is_port};
 
 // Whether one of the first 4,095 counts is not the fresh one.
@@ -47,7 +47,7 @@ fn store_changed(counts: &mut [u64], fresh: &[u64])
 
 // The first checks of every update of a table of n rows with counts; `fault` is what its arguments are refused with. Refuses: 9 at 0,
 // fewer than 4,095 counts are lent; then as `fault` does; then 11 at 0, the table is not in good order or the counts are not its own.
-fn first_check(
+fn checked_first(
     fault: Result<(), Refusal>,
     rows: &[u32],
     n: u32,
@@ -67,6 +67,20 @@ fn first_check(
         return Err(Fault::NotInOrder.at(0));
     }
     Ok(())
+}
+
+// The same checks for updates that answer by number; the count answered is n. `fault` is any answer, also one that no `Refusal` stands
+// for: where it decides, it is answered as it is, with its place and its count.
+pub fn first_check(fault: Answer, rows: &[u32], n: u32, counts: &[u64]) -> Answer
+    ensures { result ≡ first_check five_words 32 fault rows.now n counts.now }
+{
+    if fault.number != 0 && counts.len() >= PORTS {
+        return fault;
+    }
+    Answer {
+        count: n,
+        ..Answer::from(checked_first(Ok(()), rows, n, counts))
+    }
 }
 
 // The counts of a table in good order, over those of the table that it was.
@@ -90,7 +104,9 @@ fn at_0(fault: Result<(), Fault>) -> Result<(), Refusal>
 fn message_fault(message: &[u8], port: u32) -> Result<(), Refusal>
     ensures { (n : ℕ) → passed n result ≡ message_fault 32 message.now port n }
 {
-    check_message(message)?;
+    if let Err(refusal) = check_message(message) {
+        return Err(refusal);
+    }
     if is_port(port) {
         Ok(())
     } else {
@@ -104,7 +120,7 @@ pub fn announce(rows: &mut [u32], n: u32, q: Route, counts: &mut [u64]) -> Resul
     ensures { counted (updated n result) rows.new counts.new ≡ counted_on five_words 32 rows.old n counts.old (single (announcing q)) }
 {
     let fault = at_0(routes::route_fault(q));
-    first_check(fault, rows, n, counts)?;
+    checked_first(fault, rows, n, counts)?;
     let done = table_update::announce(rows, n, q)?;
     recount(rows, done, counts);
     Ok(done)
@@ -116,7 +132,7 @@ pub fn withdraw(rows: &mut [u32], n: u32, p: Prefix, counts: &mut [u64]) -> Resu
     ensures { counted (updated n result) rows.new counts.new ≡ counted_on five_words 32 rows.old n counts.old (single (withdrawing p.value p.len)) }
 {
     let fault = at_0(routes::prefix_fault(p));
-    first_check(fault, rows, n, counts)?;
+    checked_first(fault, rows, n, counts)?;
     let done = table_update::withdraw(rows, n, p)?;
     recount(rows, done, counts);
     Ok(done)
@@ -135,7 +151,7 @@ pub fn apply(
     ensures { counted (updated n result) rows.new counts.new ≡ counted_on five_words 32 rows.old n counts.old (message bytes.now port) }
 {
     let fault = message_fault(bytes, port);
-    first_check(fault, rows, n, counts)?;
+    checked_first(fault, rows, n, counts)?;
     let done = message_apply::apply(bytes, port, rows, n)?;
     recount(rows, done, counts);
     Ok(done)

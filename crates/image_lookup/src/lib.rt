@@ -143,7 +143,9 @@ pub fn lookup_4(nodes: &[u32], ports: &[u16], address: u32) -> Result<Reached, L
     descend::<4>(nodes, ports, address)
 }
 
-// The port of an address and the nodes read. Refuses 12, then 11 with the nodes read so far, both at place 0.
+// The port of an address and the nodes read. Refuses 12, then 11 with the nodes read so far, both at place 0. Unfolded where it is called, so
+// that at a constant stride its walk alone is left.
+#[inline(always)]
 pub fn lookup(stride: u32, nodes: &[u32], ports: &[u16], address: u32) -> Result<Reached, Lost>
     ensures { found_of result ≡ lookup_words 32 stride nodes.now ports.now address }
 {

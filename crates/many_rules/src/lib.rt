@@ -5,7 +5,7 @@ ghost use Rattle.std.specs.Prelude.{◌≡◌, ℕ, ◌%◌, ◌^◌};
 ghost use Rattle.promise.specs.Over.{outcome};
 ghost use Rattle.refusals.specs.Refusals.{found_of, accepted, answered};
 ghost use Rattle.refusals.specs.declared.found.Found.{Found};
-ghost use Rattle.many_rules.specs.Many.{element, told, lookup_many, Gives};
+ghost use Rattle.many_rules.specs.Many.{element, told, lookup_many};
 
 use refusals::found::{Lost, Reached};
 use refusals::{Fault, Refusal};
@@ -31,22 +31,31 @@ pub fn told(some: bool) -> u32
     u32::from(some)
 }
 
-// Looks each address up by `element`, which gives what its lookup leaves, and stores that in its element of `out`. Answers whether
-// some element is 65,535. Refuses 9 at place 0 where `out` is shorter than the addresses.
-pub fn lookup_many<F: Fn(u32) -> u16>(
-    element: F,
+// A lookup, as many are made of in one call.
+pub trait Lookup {
+    // What it answers at an address.
+    ghost look: { Self → ℕ → Found };
+
+    // What it leaves in the element of an address.
+    fn element(&self, address: u32) -> u16
+        ensures { result ≡ element (look self.now address) };
+}
+
+// Looks each address up, and stores what that leaves in its element of `out`. Answers whether some element is 65,535. Refuses 9 at
+// place 0 where `out` is shorter than the addresses.
+pub fn lookup_many<L: Lookup>(
+    lookup: &L,
     addresses: &[u32],
     out: &mut [u16],
 ) -> Result<u32, Refusal>
-    requires { F.IsAlwaysCallable element }
-    ensures { (look : ℕ → Found) → Gives (F.post element) look → outcome (answered result) out.new ≡ lookup_many look addresses.now out.old }
+    ensures { outcome (answered result) out.new ≡ lookup_many (L.look lookup.now) addresses.now out.old }
 {
     if out.len() < addresses.len() {
         return Err(Fault::NoRoom.at(0));
     }
     let mut some = false;
     for i in 0..addresses.len() {
-        let found = element(addresses[i]);
+        let found = lookup.element(addresses[i]);
         some = (found == UNFOUND) | some;
         out[i] = found;
     }

@@ -9,8 +9,8 @@ use prefix::Prefix;
 
 #[derive(Clone, Copy)]
 pub struct Prefixes<'a> {
-    pub part: &'a [u8],
-    pub at: usize,
+    part: &'a [u8],
+    at: usize,
 }
 
 impl<'a> Prefixes<'a> {

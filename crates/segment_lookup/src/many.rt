@@ -6,7 +6,7 @@ ghost use Rattle.segment_rules.specs.Lookup.{first_read, lookup_in};
 ghost use Rattle.many_rules.specs.Many.{element, lookup_many};
 
 use crate::{packed_read, plain_read, port_read};
-use many_rules::{UNFOUND, element_of, lookup_many as lookup_each};
+use many_rules::{Lookup, UNFOUND, element_of, lookup_many as lookup_each};
 use refusals::Refusal;
 use segment_rules::{FIRST_SIZE, PLAIN_POINTER, POINTER};
 
@@ -24,15 +24,31 @@ fn first_element(packed: &[u16], plain: &[u16], last: &[u16], entry: u32, addres
     element_of(plain_read(plain, last, entry - PLAIN_POINTER, address))
 }
 
-// The element of an address.
-fn element_at(first: &[u16], packed: &[u16], plain: &[u16], last: &[u16], address: u32) -> u16
-    ensures { result ≡ element (lookup_in first.now packed.now plain.now last.now address) % 2 ^ 16 }
-{
-    if first.len() < FIRST_SIZE {
-        return UNFOUND;
+// The four stores that are lent, in which addresses are looked up.
+#[derive(Clone, Copy)]
+struct Tables<'a> {
+    first: &'a [u16],
+    packed: &'a [u16],
+    plain: &'a [u16],
+    last: &'a [u16],
+}
+
+impl Lookup for Tables<'_> {
+    ghost look = { λ tables. lookup_in tables.first.now tables.packed.now tables.plain.now tables.last.now };
+
+    fn element(&self, address: u32) -> u16 {
+        if self.first.len() < FIRST_SIZE {
+            return UNFOUND;
+        }
+        let at = (address / 65536) as usize;
+        first_element(
+            self.packed,
+            self.plain,
+            self.last,
+            u32::from(self.first[at]),
+            address,
+        )
     }
-    let at = (address / 65536) as usize;
-    first_element(packed, plain, last, u32::from(first[at]), address)
 }
 
 // Looks each address up, and stores its port in its element of `out`, or 65,535 where the lookup is refused 11; answers 1 if some
@@ -47,8 +63,11 @@ pub fn lookup_many(
 ) -> Result<u32, Refusal>
     ensures { outcome (answered result) out.new ≡ lookup_many (lookup_in first.now packed.now plain.now last.now) addresses.now out.old }
 {
-    let element = |address: u32|
-        ensures { result ≡ element (lookup_in first.entry.now packed.entry.now plain.entry.now last.entry.now address) }
-    { element_at(first, packed, plain, last, address) };
-    lookup_each(element, addresses, out)
+    let tables = Tables {
+        first,
+        packed,
+        plain,
+        last,
+    };
+    lookup_each(&tables, addresses, out)
 }

@@ -83,8 +83,8 @@ fn rank_of(code: Code, i: usize) -> usize
 }
 
 // The codewords at the front of a block.
-fn put_codes(block: &mut [u16], entries: &[u16; BLOCK_SIZE], codes: &[Code; CODEWORDS])
-    requires { Coded entries.now codes.now × (length block.old ≡ packed_size) }
+fn put_codes(block: &mut [u16], entries: &[u16; BLOCK_SIZE], codes: [Code; CODEWORDS])
+    requires { Coded entries.now codes × (length block.old ≡ packed_size) }
     ensures { block.new ≡ over (list_of (codeword entries.now) codewords 0) block.old }
 {
     for c in 0..CODEWORDS {
@@ -106,8 +106,8 @@ fn put_eight(block: &mut [u16], entries: &[u16; BLOCK_SIZE], code: Code, c: usiz
 }
 
 // The entries that have a one, after the codewords. A codeword without a one has none to keep.
-fn put_entries(block: &mut [u16], entries: &[u16; BLOCK_SIZE], codes: &[Code; CODEWORDS])
-    requires { Coded entries.now codes.now × (block.old ≡ packed_to entries.now 0) }
+fn put_entries(block: &mut [u16], entries: &[u16; BLOCK_SIZE], codes: [Code; CODEWORDS])
+    requires { Coded entries.now codes × (block.old ≡ packed_to entries.now 0) }
     ensures { block.new ≡ packed_to entries.now 256 }
 {
     for c in 0..CODEWORDS {
@@ -131,9 +131,9 @@ pub fn pack(block: &mut [u16], entries: &[u16; BLOCK_SIZE])
     if MOST_KEPT < rank_of(codes[CODEWORDS - 1], BLOCK_SIZE - 1) {
         return;
     }
-    put_codes(block, entries, &codes);
+    put_codes(block, entries, codes);
     fill(block, CODEWORDS, PACKED_SIZE, 0);
-    put_entries(block, entries, &codes);
+    put_entries(block, entries, codes);
 }
 
 // Stores the entries of a segment in a plain block, of 256 words. A block of any other size is left as it is.

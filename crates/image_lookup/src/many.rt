@@ -7,7 +7,7 @@ ghost use Rattle.many_rules.specs.Many.{lookup_many};
 ghost use Rattle.image_lookup.specs.Many.{many_words};
 
 use crate::lookup;
-use many_rules::{Lookup, element_of, lookup_many as lookup_each};
+use many_rules::{Lookup, element_of, lookup_each};
 use refusals::{Fault, Refusal};
 
 // The lookup in an image at a stride, which is a constant: the compiler then makes a loop for that stride alone, and unfolds the walk in it.

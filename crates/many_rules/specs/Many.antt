@@ -15,6 +15,10 @@ unfound = 65535
 abbrev pub element : Found → ℕ
 element x = cond (eqb x.number 0) x.port unfound
 
+-- what a call may answer at an address is what that lookup leaves in its element
+abbrev pub Gives : (ℕ → ℕ → Type 0) → (ℕ → Found) → Type 0
+Gives post look = (address e : ℕ) → address < 2 ^ 32 → post address e → e ≡ element (look address)
+
 -- "answer: .. 1 if some element is 65,535, else 0"
 abbrev pub told : Bool → Answer
 told some = accepted (cond some 1 0)

@@ -5,7 +5,7 @@ ghost use Rattle.std.specs.Prelude.{◌≡◌, ℕ, ◌%◌, ◌^◌};
 ghost use Rattle.promise.specs.Over.{outcome};
 ghost use Rattle.refusals.specs.Refusals.{found_of, accepted, answered};
 ghost use Rattle.refusals.specs.declared.found.Found.{Found};
-ghost use Rattle.many_rules.specs.Many.{element, told, lookup_many};
+ghost use Rattle.many_rules.specs.Many.{element, told, lookup_many, Gives};
 
 use refusals::found::{Lost, Reached};
 use refusals::{Fault, Refusal};
@@ -43,7 +43,7 @@ pub trait Lookup {
 
 // Looks each address up, and stores what that leaves in its element of `out`. Answers whether some element is 65,535. Refuses 9 at
 // place 0 where `out` is shorter than the addresses.
-pub fn lookup_many<L: Lookup>(
+pub fn lookup_each<L: Lookup>(
     lookup: &L,
     addresses: &[u32],
     out: &mut [u16],
@@ -60,4 +60,51 @@ pub fn lookup_many<L: Lookup>(
         out[i] = found;
     }
     Ok(told(some))
+}
+
+// The same over a closure, which gives what a lookup leaves in the element of an address. It promises what its closure does: of one that
+// may give different elements at an address, nothing. A `Lookup` always promises one, so `lookup_each` cannot run this loop.
+pub fn lookup_many<F: Fn(u32) -> u16>(
+    element: F,
+    addresses: &[u32],
+    out: &mut [u16],
+) -> Result<u32, Refusal>
+    requires { F.IsAlwaysCallable element }
+    ensures { (look : ℕ → Found) → Gives (F.post element) look → outcome (answered result) out.new ≡ lookup_many look addresses.now out.old }
+{
+    if out.len() < addresses.len() {
+        return Err(Fault::NoRoom.at(0));
+    }
+    let mut some = false;
+    for i in 0..addresses.len() {
+        let given = element(addresses[i]);
+        some = (given == UNFOUND) | some;
+        out[i] = given;
+    }
+    Ok(told(some))
+}
+
+#[cfg(test)]
+mod tests {
+    use super::*;
+
+    #[test]
+    fn looks_up_by_a_closure(rt: HostRuntime) {
+        let port = 7;
+        let element = |address: u32| match address / 16777216 {
+            10 => port,
+            11 => 0,
+            _ => UNFOUND,
+        };
+        let mut out = [8; 4];
+        let found = lookup_many(element, &[0x0A010203, 0x0B000000], &mut out);
+        assert_eq!(rt; found, Ok(0));
+        assert_eq!(rt; out, [7, 0, 8, 8]);
+        let found = lookup_many(element, &[0x0C000000, 0x0B000001, 0x0AFFFFFF], &mut out);
+        assert_eq!(rt; found, Ok(1));
+        assert_eq!(rt; out, [65535, 0, 7, 8]);
+        let found = lookup_many(element, &[0x0A000000; 5], &mut out);
+        assert_eq!(rt; found, Err(Fault::NoRoom.at(0)));
+        assert_eq!(rt; out, [65535, 0, 7, 8]);
+    }
 }

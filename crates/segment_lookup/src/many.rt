@@ -6,7 +6,7 @@ ghost use Rattle.segment_rules.specs.Lookup.{first_read, lookup_in};
 ghost use Rattle.many_rules.specs.Many.{element, lookup_many};
 
 use crate::{packed_read, plain_read, port_read};
-use many_rules::{Lookup, UNFOUND, element_of, lookup_many as lookup_each};
+use many_rules::{Lookup, UNFOUND, element_of, lookup_each};
 use refusals::Refusal;
 use segment_rules::{FIRST_SIZE, PLAIN_POINTER, POINTER};
 

@@ -7,15 +7,15 @@ use Rattle.image_lookup.proofs.many.lookup_many.Goals as goal
 
 pub returns-in-1 : goal.returns-in-1
 unfolding many_words
-returns-in-1 c = rw c.in-1.is c.lookup_many.ensures
+returns-in-1 c = rw c.in-1.is c.lookup_each.ensures
 
 pub returns-in-2 : goal.returns-in-2
 unfolding many_words
-returns-in-2 c = rw c.in-2.is c.lookup_many-in-2.ensures
+returns-in-2 c = rw c.in-2.is c.lookup_each-in-2.ensures
 
 pub returns-in-4 : goal.returns-in-4
 unfolding many_words
-returns-in-4 c = rw c.in-4.is c.lookup_many-in-4.ensures
+returns-in-4 c = rw c.in-4.is c.lookup_each-in-4.ensures
 
 pub returns-in_default : goal.returns-in_default
 unfolding many_words

@@ -62,8 +62,8 @@ pub fn lookup_each<L: Lookup>(
     Ok(told(some))
 }
 
-// The same over a closure, which gives what a lookup leaves in the element of an address. It promises what its closure does: of one that
-// may give different elements at an address, nothing. A `Lookup` always promises one, so `lookup_each` cannot run this loop.
+// The same by a closure, which gives what a lookup leaves in the element of an address. It holds of each lookup whose elements the closure
+// gives, so nothing is promised of a closure that may give several at one address. No `Lookup` stands for such a one: the loop stands twice.
 pub fn lookup_many<F: Fn(u32) -> u16>(
     element: F,
     addresses: &[u32],

@@ -1,4 +1,5 @@
--- Any two results that a promise of this crate allows coincide. Assumes nothing.
+-- Any two results that a promise of this crate allows coincide; those of the loop over a closure, where the closure gives what one lookup
+-- leaves. Assumes nothing.
 use mathlib.Core.Path.{sym, ap, ◌∙◌}
 use mir.Syntax.{Dict}
 use denote.RattleType.{RattleType}
@@ -46,10 +47,11 @@ lookup_many_given : (F : RattleType) (laws : Laws F) (Fn : Closure.Ghosts F) (fn
 lookup_many_given F laws Fn fn fn_mut fn_once destruct κs a x y s t ((look, gives), p) (also, q) =
     lookups_one look a.1.0.now a.1.1.0.now _ _ x y (p look gives) (q look gives)
 
--- closures over a lookup: each may be called at any address, and gives what the lookup leaves
+-- what is promised of closures over a lookup: each may be called at any address, gives what the lookup leaves, and stays as it is
 abbrev giving : (T : RattleType) → Ghosts T.Denot → Closure.Ghosts T
 giving T L = record { pre = λ f a. Unit; post = λ f a e. e ≡ element (L.look f a.0); steps = λ f a e f'. f' ≡ f }
 
+-- of those, whatever the arguments
 lookup_many_unique : (T : RattleType) (laws : Laws T) (L : Ghosts T.Denot) (dict : Dict) → Determined 3 (lookup_many_kinds.ps T laws) (lookup_many_kinds.r T laws) (lookup_many_reads.Post T laws (giving T L) dict dict dict dict) (λ κs x s. outcome x s.1.1.0.now)
 lookup_many_unique T laws L dict κs a x y s t p q =
     let one : (look : ℕ → Found) × Gives (λ address e. e ≡ element (L.look a.0 address)) look = (L.look a.0, λ address e small post. post) in

@@ -1,4 +1,5 @@
-// Many lookups in one call, over any lookup: definitions and laws, and the loop that every such call runs.
+// Many lookups in one call, over any lookup: definitions and laws, and the loop, over a `Lookup`, as the calls of this library run it, and
+// over a closure.
 #![tactic(auto)]
 
 ghost use Rattle.std.specs.Prelude.{◌≡◌, ℕ, ◌%◌, ◌^◌};
@@ -62,8 +63,9 @@ pub fn lookup_each<L: Lookup>(
     Ok(told(some))
 }
 
-// The same by a closure, which gives what a lookup leaves in the element of an address. It holds of each lookup whose elements the closure
-// gives, so nothing is promised of a closure that may give several at one address. No `Lookup` stands for such a one: the loop stands twice.
+// Looks each address up by `element`, which gives what its lookup leaves, and stores that in its element of `out`; answers and refuses as
+// `lookup_each` does. All of this is promised for a closure that gives what some lookup leaves (`Gives`), and nothing for one whose own
+// promise allows several elements at an address. No `Lookup` can be made of every closure, so it does not call `lookup_each`.
 pub fn lookup_many<F: Fn(u32) -> u16>(
     element: F,
     addresses: &[u32],
